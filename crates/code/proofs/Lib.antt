@@ -1,0 +1,5 @@
+pub mod Table
+pub mod Entries
+pub mod Widths
+pub mod Little
+pub mod Once

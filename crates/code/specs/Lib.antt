@@ -1,0 +1,3 @@
+pub mod Told
+pub mod Width
+pub mod Numbers
