@@ -42,16 +42,15 @@ pub fn disassemble(code: &[u8]) -> Vec<(usize, u8, usize)> {
 }
 
 /// The original's width of the instruction at an offset.
-///
-/// # Panics
-///
-/// In a debug build where the offset is so near the largest `usize` that the sum overflows.
 pub fn width(code: &[u8], at: usize) -> Option<usize> {
     text::code::width(code, at)
 }
 
-/// The original's little-endian number at an offset. It overflows as `width` does not: ask
-/// for offsets near the code only.
+/// The original's little-endian number at an offset.
+///
+/// # Panics
+///
+/// In a debug build, where the number would end past the largest `usize`.
 pub fn u16_at(code: &[u8], at: usize) -> Option<u16> {
     text::code::u16_at(code, at)
 }

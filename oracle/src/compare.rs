@@ -4,10 +4,11 @@
 //! What is lent holds a pattern before the call and lies between guards, so that a verifier
 //! that relies on zeros, forgets to clear, or writes beside its buffers is found out.
 
-use crate::generator::{Case, Room};
+use crate::generator::{self, Case, Room, Tally};
 use crate::input::{Input, Lent, Verdict, Verifier};
 use crate::oracle;
 use std::fmt;
+use std::ops::Range;
 
 /// Elements before and behind each buffer that nobody may touch.
 pub const GUARD: usize = 3;
@@ -155,7 +156,10 @@ impl fmt::Display for Difference {
                 name,
                 oracle,
                 subject,
-            } => write!(f, "{name}: {oracle} by the oracle, {subject} by the subject"),
+            } => write!(
+                f,
+                "{name}: {oracle} by the oracle, {subject} by the subject"
+            ),
             Difference::Element {
                 buffer,
                 at,
@@ -194,6 +198,31 @@ pub fn run_open(case: &Case, subject: &Open) -> Result<Verdict, Difference> {
         return Err(Difference::Input);
     }
     Ok(verdict)
+}
+
+/// The seed of a case, and what differed in it.
+#[derive(Clone, Debug, PartialEq, Eq)]
+pub struct Finding {
+    pub seed: u64,
+    pub difference: Difference,
+}
+
+impl fmt::Display for Finding {
+    fn fmt(&self, f: &mut fmt::Formatter) -> fmt::Result {
+        write!(f, "seed {}: {}", self.seed, self.difference)
+    }
+}
+
+/// Runs over the mixed cases of these seeds, up to the first difference. The answers are
+/// counted, so that the caller can see that the run had something of everything.
+pub fn sweep(seeds: Range<u64>, subject: &Verifier) -> Result<Tally, Finding> {
+    let mut tally = Tally::default();
+    for seed in seeds {
+        let case = generator::case(seed);
+        let verdict = run(&case, subject).map_err(|difference| Finding { seed, difference })?;
+        tally.add(&case, &verdict);
+    }
+    Ok(tally)
 }
 
 fn same_verdict(verdict: &Verdict, answer: &Verdict) -> Result<(), Difference> {

@@ -1,6 +1,12 @@
 //! The judge of the Rattle code: what document 01 says, in plain Rust.
 //!
 //! - `input`: what goes in, what is lent, what comes back.
+//! - `tables`: document 01's tables, looked up by a tag's number.
+//! - `oracle`: the right answer, and wrong ones on demand.
+//! - `second`: a second opinion on the chunks, from the definition instead of the walk.
+//! - `generator`: cases to try a verifier on, each repeated by its seed.
+//! - `compare`: the oracle and another verifier on the same case, down to each element.
+//! - `mocks`: wrong verifiers, which the comparison has to tell from the right one.
 
 pub mod compare;
 pub mod generator;

@@ -1,8 +1,10 @@
 //! Wrong verifiers, each with one error. A comparison that lets one of them pass over its
 //! run is worth nothing, so they are what the comparison itself is tested with.
 
+mod memory;
+
 use crate::compare::{Memory, Open};
-use crate::input::{Input, Verdict, NO_CHUNK};
+use crate::input::{Chunk, Input, Verdict, NO_CHUNK};
 use crate::oracle::{self, Slips};
 
 /// A wrong verifier and what is wrong with it.
@@ -16,14 +18,13 @@ pub fn all() -> Vec<Mock> {
     let groups = [
         slips(),
         frauds(),
-        misreadings(),
+        misread_rights(),
+        misread_tables(),
         wrong_answers(),
+        wrong_details(),
         wrong_numbers(),
-        wrong_marks(),
-        wrong_heights(),
-        uncleared(),
-        hasty(),
-        trespassers(),
+        wrong_counts(),
+        memory::all(),
     ];
     groups.into_iter().flatten().collect()
 }
@@ -195,8 +196,8 @@ fn only_first(input: &Input, memory: &mut Memory) -> Verdict {
     verdict
 }
 
-/// Parts of the input that are looked at wrongly or not at all.
-fn misreadings() -> Vec<Mock> {
+/// Rights that are asked wrongly or not at all.
+fn misread_rights() -> Vec<Mock> {
     vec![
         asked("only the flag 1 makes a name qualified", |input| {
             input.names.iter_mut().for_each(|flag| *flag &= 1);
@@ -206,13 +207,26 @@ fn misreadings() -> Vec<Mock> {
         asked("functions need no right", |input| input.functions = 0),
         asked("constants need no right", |input| input.constants.fill(0)),
         asked("only the first constant needs rights", |input| {
-            input.constants.iter_mut().skip(1).for_each(|word| *word = 0);
+            input
+                .constants
+                .iter_mut()
+                .skip(1)
+                .for_each(|word| *word = 0);
         }),
+    ]
+}
+
+/// Tables and chunks that are looked at wrongly or not at all.
+fn misread_tables() -> Vec<Mock> {
+    vec![
         asked("any height may be declared", |input| {
-            input.chunks.iter_mut().for_each(|chunk| chunk.declared = u16::MAX);
+            input
+                .chunks
+                .iter_mut()
+                .for_each(|chunk| chunk.declared = u16::MAX);
         }),
         asked("the height has to be below the declared", |input| {
-            let lower = |chunk: &mut crate::input::Chunk| {
+            let lower = |chunk: &mut Chunk| {
                 chunk.declared = chunk.declared.saturating_sub(1);
             };
             input.chunks.iter_mut().for_each(lower);
@@ -223,7 +237,10 @@ fn misreadings() -> Vec<Mock> {
         }),
         asked("a chain's operands have 16 bits", |input| {
             let words = input.chains.iter_mut();
-            words.skip(2).step_by(7).for_each(|operands| *operands &= 0xffff);
+            words
+                .skip(2)
+                .step_by(7)
+                .for_each(|operands| *operands &= 0xffff);
         }),
         asked("tokens are counted in 32 bits", |input| {
             input.tokens &= u64::from(u32::MAX);
@@ -268,6 +285,12 @@ fn wrong_answers() -> Vec<Mock> {
                 verdict.at = call.input.chunks[verdict.chunk as usize].entry.into();
             }
         }),
+    ]
+}
+
+/// Places and words that are left out, exchanged, or given in part.
+fn wrong_details() -> Vec<Mock> {
+    vec![
         patched("never says where", |_, verdict| verdict.at = 0),
         patched("p and q exchanged", |_, verdict| {
             std::mem::swap(&mut verdict.p, &mut verdict.q);
@@ -311,6 +334,11 @@ fn wrong_numbers() -> Vec<Mock> {
                 verdict.p *= 4;
             }
         }),
+    ]
+}
+
+fn wrong_counts() -> Vec<Mock> {
+    vec![
         patched("taken counts edges only", |call, verdict| {
             if verdict.kind == 0 {
                 verdict.taken -= call.input.chunks.len() as u64;
@@ -325,199 +353,4 @@ fn wrong_numbers() -> Vec<Mock> {
             }
         }),
     ]
-}
-
-fn wrong_marks() -> Vec<Mock> {
-    vec![
-        patched("starts stay after a refusal", |call, verdict| {
-            if late_refusal(verdict) {
-                mark_starts(call.input, call.after.marks.lent());
-            }
-        }),
-        patched("marks are not cleared after a refusal", |call, verdict| {
-            if late_refusal(verdict) {
-                call.after.marks.put_back(&call.before.marks, 0);
-            }
-        }),
-        patched("marks past the needed words stay", |call, _| {
-            let needed = call.input.code.len() / 64 + 1;
-            call.after.marks.put_back(&call.before.marks, needed);
-        }),
-        patched("a last word without a bit stays", |call, _| {
-            if call.input.code.len() % 64 == 0 {
-                let last = call.input.code.len() / 64;
-                call.after.marks.put_back(&call.before.marks, last);
-            }
-        }),
-        patched("the code's end is marked", |call, verdict| {
-            if verdict.kind == 0 {
-                let len = call.input.code.len();
-                call.after.marks.lent()[len / 64] |= 1 << (len % 64);
-            }
-        }),
-        patched("only starts in chunks are marked", |call, _| {
-            let marks = call.after.marks.lent();
-            for at in 0..call.input.code.len() {
-                let holds = |chunk: &crate::input::Chunk| {
-                    (chunk.entry as usize..chunk.end as usize).contains(&at)
-                };
-                if !call.input.chunks.iter().any(holds) {
-                    marks[at / 64] &= !(1 << (at % 64));
-                }
-            }
-        }),
-    ]
-}
-
-/// What the first pass has marked when it is over, or when it stops.
-fn mark_starts(input: &Input, marks: &mut [u64]) {
-    for (at, _, _) in oracle::listing(&input.code).0 {
-        marks[at / 64] |= 1 << (at % 64);
-    }
-}
-
-fn wrong_heights() -> Vec<Mock> {
-    vec![
-        patched("declared heights are stored", |call, verdict| {
-            let stored = stored(call.input, verdict);
-            let heights = call.after.heights.lent();
-            for (height, chunk) in heights[..stored].iter_mut().zip(&call.input.chunks) {
-                *height = chunk.declared;
-            }
-        }),
-        patched("the greatest height stands for all", |call, verdict| {
-            let stored = stored(call.input, verdict);
-            let heights = &mut call.after.heights.lent()[..stored];
-            let greatest = heights.iter().max().copied();
-            heights.fill(greatest.unwrap_or(0));
-        }),
-        patched("a height over the declared is stored", |call, verdict| {
-            if verdict.kind == 14 {
-                call.after.heights.lent()[verdict.chunk as usize] = verdict.p as u16;
-            }
-        }),
-        patched("the refused chunk gets a height", |call, verdict| {
-            if verdict.kind != 0 && verdict.chunk != NO_CHUNK {
-                call.after.heights.lent()[verdict.chunk as usize] = 0;
-            }
-        }),
-        patched("heights before a refusal are taken back", |call, verdict| {
-            if verdict.kind != 0 {
-                call.after.heights.put_back(&call.before.heights, 0);
-            }
-        }),
-        patched("heights behind a refused chunk are cleared", |call, verdict| {
-            if verdict.kind != 0 && verdict.chunk != NO_CHUNK {
-                let behind = verdict.chunk as usize + 1;
-                call.after.heights.lent()[behind..].fill(0);
-            }
-        }),
-        patched("heights past the chunks are cleared", |call, verdict| {
-            if verdict.kind == 0 {
-                call.after.heights.lent()[call.input.chunks.len()..].fill(0);
-            }
-        }),
-        patched("heights are cleared before the chunks", |call, verdict| {
-            if late_refusal(verdict) && verdict.chunk == NO_CHUNK {
-                call.after.heights.lent().fill(0);
-            }
-        }),
-    ]
-}
-
-/// Records and work that keep something.
-fn uncleared() -> Vec<Mock> {
-    vec![
-        patched("records stay after acceptance", |call, verdict| {
-            if verdict.kind == 0 {
-                call.after.records.put_back(&call.before.records, 0);
-            }
-        }),
-        patched("records stay after a refusal", |call, verdict| {
-            if verdict.kind != 0 {
-                call.after.records.put_back(&call.before.records, 0);
-            }
-        }),
-        patched("the last record stays", |call, _| {
-            let last = call.after.records.lent().len().saturating_sub(1);
-            call.after.records.put_back(&call.before.records, last);
-        }),
-        patched("work stays after acceptance", |call, verdict| {
-            if verdict.kind == 0 {
-                call.after.work.put_back(&call.before.work, 0);
-            }
-        }),
-        patched("work stays after a refusal", |call, verdict| {
-            if verdict.kind != 0 {
-                call.after.work.put_back(&call.before.work, 0);
-            }
-        }),
-        patched("the last work item stays", |call, _| {
-            let last = call.after.work.lent().len().saturating_sub(1);
-            call.after.work.put_back(&call.before.work, last);
-        }),
-        patched("all stays when no chunk is come to", |call, verdict| {
-            if late_refusal(verdict) && verdict.chunk == NO_CHUNK {
-                call.after.clone_from(call.before);
-            }
-        }),
-        patched("all stays when a chunk finds no room", |call, verdict| {
-            if verdict.kind == 3 {
-                let heights = call.after.heights.clone();
-                call.after.clone_from(call.before);
-                call.after.heights = heights;
-            }
-        }),
-    ]
-}
-
-/// Stores before the answers that come before any store.
-fn hasty() -> Vec<Mock> {
-    let mut mocks = Vec::new();
-    for kind in 1..=3 {
-        let mut add = |what: &str, store: fn(&mut Memory)| {
-            let name = format!("{what} cleared before kind {kind}");
-            mocks.push(patched(&name, move |call, verdict| {
-                if early(verdict) && verdict.kind == kind {
-                    store(call.after);
-                }
-            }));
-        };
-        add("marks", |memory| memory.marks.lent().fill(0));
-        add("heights", |memory| memory.heights.lent().fill(0));
-        add("records", |memory| memory.records.lent().fill(0));
-        add("work", |memory| memory.work.lent().fill(0));
-    }
-    mocks
-}
-
-/// Writes where nothing was lent.
-fn trespassers() -> Vec<Mock> {
-    fn touch<T: Copy + Default>(cells: &mut [T], before: bool) {
-        let guard = crate::compare::GUARD;
-        let at = if before { guard - 1 } else { cells.len() - guard };
-        cells[at] = T::default();
-    }
-    let mut mocks = Vec::new();
-    for (side, before) in [("before", true), ("behind", false)] {
-        let mut add = |what: &str, store: fn(&mut Memory, bool)| {
-            let name = format!("writes {side} the {what}");
-            mocks.push(patched(&name, move |call, _| store(call.after, before)));
-        };
-        add("marks", |memory, before| touch(memory.marks.with_guards(), before));
-        add("heights", |memory, before| touch(memory.heights.with_guards(), before));
-        add("records", |memory, before| touch(memory.records.with_guards(), before));
-        add("work", |memory, before| touch(memory.work.with_guards(), before));
-    }
-    mocks.push(mock("changes the code", |input, memory| {
-        let verdict = oracle::verify(input, memory.lend());
-        input.code.iter_mut().take(1).for_each(|byte| *byte ^= 1);
-        verdict
-    }));
-    mocks.push(mock("lowers the declared heights", |input, memory| {
-        let verdict = oracle::verify(input, memory.lend());
-        input.chunks.iter_mut().for_each(|chunk| chunk.declared = 0);
-        verdict
-    }));
-    mocks
 }

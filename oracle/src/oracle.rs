@@ -12,7 +12,11 @@ use crate::tables::{
 };
 
 /// Wrong readings, each to be switched on by itself: a comparison that is worth something
-/// tells each of them from the right one. All off is the oracle.
+/// tells each of them from the right one. All off is the oracle. Each stands in the code where
+/// it deviates, as `slips.` and its name.
+///
+/// `height_at_only` gives the right answers: in an accepted chunk an instruction that leaves
+/// more than it met has a successor that meets as much, and a refused chunk has no height.
 #[derive(Clone, Copy, Debug, Default, PartialEq, Eq)]
 pub struct Slips {
     /// A merge compares the operands and forgets iterators and handlers.
@@ -333,13 +337,10 @@ fn all_good(
 
 /// Whether first + count, as a number, is not past a table of `length` entries.
 fn within(slips: &Slips, first: u32, count: u32, length: u64) -> bool {
-    let past = u64::from(first) + u64::from(count);
-    let past = if slips.first_plus_count_wraps_32 {
-        u64::from(first.wrapping_add(count))
-    } else {
-        past
-    };
-    past <= length
+    if slips.first_plus_count_wraps_32 {
+        return u64::from(first.wrapping_add(count)) <= length;
+    }
+    u64::from(first) + u64::from(count) <= length
 }
 
 /// Kind 3.

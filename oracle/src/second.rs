@@ -166,7 +166,7 @@ fn sizes_fit(input: &Input) -> bool {
 }
 
 fn tables_whole(input: &Input) -> bool {
-    let whole = |words: &[u32], each: usize| words.len() % each == 0;
+    let whole = |words: &[u32], each: usize| words.chunks_exact(each).remainder().is_empty();
     let inside = |first: u32, count: u32, table: &[u32], each: usize| {
         u128::from(first) + u128::from(count) <= (table.len() / each) as u128
     };
@@ -442,34 +442,39 @@ fn edges(input: &Input, at: usize, depths: Depths) -> Option<Vec<(u64, Depths)>>
     let left = operands - pops + pushes;
     let next = (at + tables::width(code[at])) as u64;
     let target = || number(code, at + 1, 4);
-    Some(match (tables::flow(code[at]), code[at]) {
-        (Flow::Stop, _) => vec![],
-        (Flow::Jump, _) => vec![(target(), (left, iterators, handlers))],
-        (Flow::Branch, _) => {
+    Some(match tables::flow(code[at]) {
+        Flow::Stop => vec![],
+        Flow::Jump => vec![(target(), (left, iterators, handlers))],
+        Flow::Branch => {
             let either = (left, iterators, handlers);
             vec![(target(), either), (next, either)]
         }
-        (Flow::Handler, _) => {
+        Flow::Handler => {
             let armed = (operands, iterators, handlers + 1);
             vec![(target(), armed), (next, armed)]
         }
-        (Flow::IterNext, _) => {
+        Flow::IterNext => {
             let exit = (operands, iterators.checked_sub(1)?, handlers);
             vec![
                 (target(), exit),
                 (next, (operands + 1, iterators, handlers)),
             ]
         }
-        (Flow::Switch, _) => {
+        Flow::Switch => {
             let arms = arms(input, named(input, at));
             arms.map(|arm| (arm, (left, iterators, handlers))).collect()
         }
-        (Flow::Plain, tag::ITER_INIT) => vec![(next, (left, iterators + 1, handlers))],
-        (Flow::Plain, tag::ITER_DROP) => vec![(next, (left, iterators.checked_sub(1)?, handlers))],
-        (Flow::Plain, tag::POP_HANDLER) => {
-            vec![(next, (left, iterators, handlers.checked_sub(1)?))]
-        }
-        (Flow::Plain, _) => vec![(next, (left, iterators, handlers))],
+        Flow::Plain => vec![(next, plain(code[at], left, iterators, handlers)?)],
+    })
+}
+
+/// The depths after an instruction with one way on.
+fn plain(tag: u8, operands: u64, iterators: u64, handlers: u64) -> Option<Depths> {
+    Some(match tag {
+        tag::ITER_INIT => (operands, iterators + 1, handlers),
+        tag::ITER_DROP => (operands, iterators.checked_sub(1)?, handlers),
+        tag::POP_HANDLER => (operands, iterators, handlers.checked_sub(1)?),
+        _ => (operands, iterators, handlers),
     })
 }
 

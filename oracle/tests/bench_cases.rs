@@ -406,8 +406,12 @@ fn indexed_iteration_pushes_one() {
 }
 
 #[test]
-fn rights_come_before_operands_and_after_a_merge() {
+fn rights_come_before_operands() {
     refuses(&bench("16 00"), (4, 0, 0, 96, 0), &[]);
+}
+
+#[test]
+fn functions_ask_for_function() {
     let mut input = bench("01 07");
     input.functions = 1;
     refuses(&input, (4, NO_CHUNK, 0, 1, 0), &[]);

@@ -1,56 +1,89 @@
--- The laws of a width at an offset, by any table of widths.
+-- What stands at an offset, by any table of widths: the four cases, and what each case tells.
 use mathlib.Core.Bool.{Bool, true, false, cond}
 use mathlib.Core.List.{List}
-use mathlib.Core.Path.{_≡_, refl, ap}
+use mathlib.Core.Path.{_≡_, refl, sym, ap, _∙_}
 use Prim.Native.Nat.{ℕ, _+_, _≤_, _<_}
 use native.Mathlib.Omega.{arith}
-use borrow.Author.Tests.{le-leb, lt-leb, ne-eqb, leb-true, leb-false, eqb-false, eqb-true}
+use borrow.Author.Tests.{leb-true, leb-false, eqb-true, eqb-false}
 use lib.Dec.{leb, eqb}
 use lib.ListN.{length, getD}
 use Rattle.code.specs.Told.{Told, found, without}
 use Rattle.code.specs.Width.{toldBy, widthBy}
 
+-- answers of different numbers differ
+pub apart : {s t : Told} → s ≡ t → s .number ≡ t .number
+apart e = ap (λ (t : Told). t .number) e
+
 module _ (table : ℕ → ℕ) (code : List ℕ) (at : ℕ) where
-  -- the four cases
-  pub told-past : length code ≤ at → toldBy table code at ≡ without 1
-  unfolding toldBy
-  told-past h = rw (le-leb (length code) at h)
-
-  pub told-unknown : at < length code → table (getD code at 0) ≡ 0 → toldBy table code at ≡ without 2
-  unfolding toldBy
-  told-unknown h e = rw (lt-leb (length code) at h, e)
-
-  pub told-width : at < length code → (table (getD code at 0) ≡ 0 → ⊥) → at + table (getD code at 0) ≤ length code
-      → toldBy table code at ≡ found (table (getD code at 0))
-  unfolding toldBy
-  told-width h n w = rw (lt-leb (length code) at h, ne-eqb (table (getD code at 0)) 0 n, le-leb (at + table (getD code at 0)) (length code) w)
-
-  pub told-cut : at < length code → (table (getD code at 0) ≡ 0 → ⊥) → length code < at + table (getD code at 0)
-      → toldBy table code at ≡ without 3
-  unfolding toldBy
-  told-cut h n w = rw (lt-leb (length code) at h, ne-eqb (table (getD code at 0)) 0 n, lt-leb (at + table (getD code at 0)) (length code) w)
-
-  -- a width is that of the tag there, and what it spans is within the code
-  pub record Spans (w : ℕ) : Type 0 where
+  -- an instruction of w bytes stands at the offset
+  pub record Wide (w : ℕ) : Type 0 where
+    pub byte : at < length code
     pub tag : w ≡ table (getD code at 0)
+    pub some : 0 < w
     pub within : at + w ≤ length code
 
-  pub spans : 0 < widthBy table code at → Spans (widthBy table code at)
+  pub data Stands (t : Told) : Type 0 where
+    past : length code ≤ at → t ≡ without 1 → Stands t
+    unknown : at < length code → table (getD code at 0) ≡ 0 → t ≡ without 2 → Stands t
+    whole : Wide (table (getD code at 0)) → t ≡ found (table (getD code at 0)) → Stands t
+    cut : at < length code → 0 < table (getD code at 0) → length code < at + table (getD code at 0) → t ≡ without 3 → Stands t
+
+  pub stands : Stands (toldBy table code at)
   unfolding toldBy
-  spans h = go (leb (length code) at) (eqb (table (getD code at 0)) 0) (leb (at + table (getD code at 0)) (length code)) refl h
+  stands = go (leb (length code) at) refl (eqb size 0) refl (leb (at + size) (length code)) refl
     where
-      t : ℕ
-      t = table (getD code at 0)
+      size : ℕ
+      size = table (getD code at 0)
 
-      value : Bool → Bool → Bool → ℕ
-      value a b c = cond a (without 1) (cond b (without 2) (cond c (found t) (without 3))) .value
+      go : (a : Bool) → leb (length code) at ≡ a → (b : Bool) → eqb size 0 ≡ b → (d : Bool) → leb (at + size) (length code) ≡ d
+          → Stands (cond a (without 1) (cond b (without 2) (cond d (found size) (without 3))))
+      go true p b q d r = past (leb-true (length code) at p) refl
+      go false p true q d r = unknown (leb-false (length code) at p) (eqb-true size 0 q) refl
+      go false p false q true r =
+          let n = eqb-false size 0 q in
+          whole (record { byte = leb-false (length code) at p; tag = refl; some = omega arith; within = leb-true (at + size) (length code) r }) refl
+      go false p false q false r =
+          let n = eqb-false size 0 q in
+          cut (leb-false (length code) at p) (omega arith) (leb-false (at + size) (length code) r) refl
 
-      go : (a b c : Bool) → leb (at + t) (length code) ≡ c → 0 < value a b c → Spans (value a b c)
-      go true b c e p = absurd (omega arith)
-      go false true c e p = absurd (omega arith)
-      go false false true e p = record { tag = refl; within = leb-true (at + t) (length code) e }
-      go false false false e p = absurd (omega arith)
+  -- a width that is told is there
+  pub wide : (w : ℕ) → found w ≡ toldBy table code at → Wide w
+  wide w e = go stands
+    where
+      go : Stands (toldBy table code at) → Wide w
+      go (past h q) = absurd (omega (arith, apart (e ∙ q)))
+      go (unknown h z q) = absurd (omega (arith, apart (e ∙ q)))
+      go (whole v q) =
+          let same : w ≡ table (getD code at 0) = ap (λ (t : Told). t .value) (e ∙ q) in
+          rw same v
+      go (cut h p l q) = absurd (omega (arith, apart (e ∙ q)))
 
-  -- past the end there is none
-  pub past : length code ≤ at → widthBy table code at ≡ 0
-  past h = ap (λ (t : Told). t .value) (told-past h)
+  -- and the width at the offset is it
+  pub width-there : 0 < widthBy table code at → Wide (widthBy table code at)
+  width-there h = go stands
+    where
+      go : Stands (toldBy table code at) → Wide (widthBy table code at)
+      go (past p q) = absurd (omega (arith, ap (λ (t : Told). t .value) q))
+      go (unknown p z q) = absurd (omega (arith, ap (λ (t : Told). t .value) q))
+      go (whole v q) = rw (ap (λ (t : Told). t .value) q) v
+      go (cut p s l q) = absurd (omega (arith, ap (λ (t : Told). t .value) q))
+
+  -- no byte is told exactly past the end
+  pub told-past : without 1 ≡ toldBy table code at → length code ≤ at
+  told-past e = go stands
+    where
+      go : Stands (toldBy table code at) → length code ≤ at
+      go (past h q) = h
+      go (unknown h z q) = absurd (omega (arith, apart (e ∙ q)))
+      go (whole v q) = absurd (omega (arith, apart (e ∙ q)))
+      go (cut h p l q) = absurd (omega (arith, apart (e ∙ q)))
+
+  -- an unknown tag or a cut instruction is told of a byte that is there
+  pub told-byte : (why : ℕ) → 1 < why → without why ≡ toldBy table code at → at < length code
+  told-byte why l e = go stands
+    where
+      go : Stands (toldBy table code at) → at < length code
+      go (past h q) = absurd (omega (arith, apart (e ∙ q)))
+      go (unknown h z q) = h
+      go (whole v q) = v .byte
+      go (cut h p s q) = h

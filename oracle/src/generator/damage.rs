@@ -10,13 +10,41 @@ use crate::tables::{case, chain, limit, rights, step, switch, tag};
 
 type Damage = fn(&mut Rng, &mut Input);
 
+/// What may be broken; what takes more draws to show stands here more than once.
+const DAMAGES: &[Damage] = &[
+    bit,
+    byte,
+    other_tag,
+    other_tag,
+    other_tag,
+    other_tag,
+    target,
+    target,
+    target,
+    operand,
+    operand,
+    fewer,
+    fewer,
+    span,
+    span,
+    word,
+    word,
+    word,
+    right,
+    right,
+    ragged,
+    declared,
+    declared,
+    cut,
+    insert,
+    swap,
+    empty_chunk,
+    constant,
+    foreign_site,
+];
+
 /// A good program with one thing changed, or up to three.
 pub fn damaged(rng: &mut Rng) -> Case {
-    const DAMAGES: &[Damage] = &[
-        bit, byte, other_tag, other_tag, other_tag, other_tag, target, target, target, operand,
-        operand, fewer, fewer, span, span, word, word, word, right, right, ragged, declared,
-        declared, cut, insert, swap, empty_chunk, constant, foreign_site,
-    ];
     let mut input = good(rng);
     for _ in 0..rng.pick(&[1, 1, 1, 1, 2, 3]) {
         rng.pick(DAMAGES)(rng, &mut input);
@@ -97,7 +125,13 @@ fn goal(rng: &mut Rng, input: &Input) -> u32 {
         (chunk.entry, chunk.end)
     });
     let near = [start, start, start + 1, chunk.0, chunk.1];
-    let far = [chunk.1.wrapping_sub(1), chunk.0.wrapping_sub(1), len, len + 1, u32::MAX];
+    let far = [
+        chunk.1.wrapping_sub(1),
+        chunk.0.wrapping_sub(1),
+        len,
+        len + 1,
+        u32::MAX,
+    ];
     if rng.one_in(3) {
         rng.pick(&far)
     } else {
@@ -136,7 +170,18 @@ fn near_size(rng: &mut Rng, input: &Input) -> u32 {
         input.cases.len() / case::WORDS,
         input.ranges.len(),
     ]) as u32;
-    rng.pick(&[size, size, size + 1, size.saturating_sub(1), 0, 1, 2, 3, 65_535, u32::MAX])
+    rng.pick(&[
+        size,
+        size,
+        size + 1,
+        size.saturating_sub(1),
+        0,
+        1,
+        2,
+        3,
+        65_535,
+        u32::MAX,
+    ])
 }
 
 /// A pool loses its last entry.
@@ -279,7 +324,9 @@ fn swap(rng: &mut Rng, input: &mut Input) {
 /// There are no custom syntax sites, so the index is bad even where it is never reached.
 fn foreign_site(rng: &mut Rng, input: &mut Input) {
     let index = rng.pick(&[0, 1, 255]);
-    input.code.extend_from_slice(&[tag::CUSTOM_SYNTAX, index, 0]);
+    input
+        .code
+        .extend_from_slice(&[tag::CUSTOM_SYNTAX, index, 0]);
     if rng.one_in(20) {
         input.tokens = rng.pick(&[limit::TOKENS, limit::TOKENS + 1, u64::MAX]);
     }

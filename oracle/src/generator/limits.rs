@@ -28,7 +28,7 @@ pub const LIMITS: [u64; 11] = [
 pub fn at_a_limit(rng: &mut Rng) -> Case {
     let number = rng.between(1, LIMITS.len());
     let mut input = with_count(number, LIMITS[number - 1] as usize + rng.below(3) - 1);
-    match rng.below(8) {
+    match rng.below(14) {
         0 => input.tokens = limit::TOKENS + 1,
         1 => input.op_assignments = u64::MAX,
         2 => input.tokens = 1 << 32,
@@ -46,7 +46,6 @@ pub fn at_a_limit(rng: &mut Rng) -> Case {
 /// code can name it.
 pub fn with_count(number: usize, count: usize) -> Input {
     let last = (count - 1).min(65_535) as u16;
-    let [low, high] = last.to_le_bytes();
     let mut input = Input {
         rights: 0x1_ffff,
         code: vec![tag::UNIT, tag::RETURN],
@@ -54,6 +53,17 @@ pub fn with_count(number: usize, count: usize) -> Input {
     };
     match number {
         1 => input.code = filled(count),
+        2..=5 => fill_pool(&mut input, number, count, last.to_le_bytes()),
+        6..=10 => fill_table(&mut input, number, count, last.to_le_bytes()),
+        _ => (),
+    }
+    let copies = if number == 11 { count } else { 1 };
+    input.chunks = vec![over_all(&input, 1); copies];
+    input
+}
+
+fn fill_pool(input: &mut Input, number: usize, count: usize, [low, high]: [u8; 2]) {
+    match number {
         2 => {
             input.constants = vec![0; count];
             input.code = vec![tag::LOAD_CONST, low, high, tag::RETURN];
@@ -67,29 +77,32 @@ pub fn with_count(number: usize, count: usize) -> Input {
             input.tokens = count as u64;
             input.code = vec![tag::CALL_OP, 0, 0, 0, low, high, tag::RETURN];
         }
-        5 => {
+        _ => {
             input.op_assignments = count as u64;
-            input.code = vec![tag::UNIT, tag::ASSIGN_THIS_OP, low, high, tag::UNIT, tag::RETURN];
+            let assign = [tag::ASSIGN_THIS_OP, low, high, tag::UNIT];
+            input.code.splice(1..1, assign);
         }
+    }
+}
+
+fn fill_table(input: &mut Input, number: usize, count: usize, [low, high]: [u8; 2]) {
+    match number {
         6 => {
             input.steps = vec![0; count * step::WORDS];
             input.chains = vec![3, 0, 0, 0, 0, 0, count as u32];
             input.code = vec![tag::CHAIN, 0, 0, tag::RETURN];
         }
-        7 | 8 => switched(&mut input, number == 7, count),
+        7 | 8 => switched(input, number == 7, count),
         9 => {
             input.chains = [3, 0, 0, 0, 0, 0, 0].repeat(count);
             input.code = vec![tag::CHAIN, low, high, tag::RETURN];
         }
-        10 => {
+        _ => {
             input.switches = [0, 0, 0, 0, 4].repeat(count);
-            input.code = vec![tag::UNIT, tag::SWITCH, low, high, tag::UNIT, tag::RETURN];
+            let switch = [tag::SWITCH, low, high, tag::UNIT];
+            input.code.splice(1..1, switch);
         }
-        _ => (),
     }
-    let copies = if number == 11 { count } else { 1 };
-    input.chunks = vec![over_all(&input, 1); copies];
-    input
 }
 
 fn over_all(input: &Input, declared: u16) -> Chunk {
@@ -124,7 +137,11 @@ pub fn extreme(rng: &mut Rng) -> Case {
         0 => deepest(rng),
         1 => crowded(rng),
         2 => hungry(rng, &[tag::MAKE_MAP, 0, 0x80], 0),
-        _ => hungry(rng, &[tag::CHAIN, 0, 0], rng.clone().pick(&[65_536, u32::MAX])),
+        _ => hungry(
+            rng,
+            &[tag::CHAIN, 0, 0],
+            rng.clone().pick(&[65_536, u32::MAX]),
+        ),
     };
     let room = Room::enough(rng, &input);
     Case { input, room }

@@ -59,7 +59,7 @@ pub fn families() -> &'static [Family] {
         family("words", 200, random::words),
         family("rooms", 500, limits::at_the_room),
         family("marks", 180, limits::at_a_word),
-        family("limits", 15, limits::at_a_limit),
+        family("limits", 40, limits::at_a_limit),
         family("extremes", 5, limits::extreme),
     ];
     FAMILIES

@@ -110,8 +110,8 @@ fn block(builder: &mut Builder) {
 
 fn statement(builder: &mut Builder) {
     const RICH: &[Part] = &[
-        assign, assign, nothing, kept, if_else, if_else, if_else, while_loop, until_loop,
-        for_loop, for_loop, try_catch, try_catch, switch, switch, early_exit, early_exit,
+        assign, assign, nothing, kept, if_else, if_else, if_else, while_loop, until_loop, for_loop,
+        for_loop, try_catch, try_catch, switch, switch, early_exit, early_exit,
     ];
     const PLAIN: &[Part] = &[assign, nothing];
     choose(builder, RICH, PLAIN)(builder);
@@ -232,7 +232,9 @@ fn for_loop(builder: &mut Builder) {
 }
 
 fn try_catch(builder: &mut Builder) {
-    let byte = builder.rng.pick(&[tag::PUSH_HANDLER, tag::PUSH_HANDLER_VAR]);
+    let byte = builder
+        .rng
+        .pick(&[tag::PUSH_HANDLER, tag::PUSH_HANDLER_VAR]);
     let catch = builder.live(byte, 0, 0, 0);
     block(builder);
     builder.live(tag::POP_HANDLER, 0, 0, 0);

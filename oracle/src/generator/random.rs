@@ -80,21 +80,35 @@ pub fn bytes(rng: &mut Rng) -> Case {
     finish(rng, input)
 }
 
-/// Table words drawn without regard to what they mean, with a code that names the entries.
+/// Tables drawn word by word, with a code that names some entry of each.
 pub fn words(rng: &mut Rng) -> Case {
     let mut input = pools(rng);
-    for (table, most) in [
-        (&mut input.chains, 16),
-        (&mut input.steps, 10),
-        (&mut input.switches, 12),
-        (&mut input.cases, 6),
-        (&mut input.ranges, 3),
-    ] {
-        let count = rng.below(most);
-        *table = (0..count).map(|_| rng.pick(&[0, 0, 1, 1, 2, 3, 4, u32::MAX])).collect();
-    }
-    input.code = vec![tag::UNIT, tag::CHAIN, 0, 0, tag::SWITCH, 0, 0, tag::RETURN];
+    input.chains = entries(rng, &[4, 3, 3, 3, 3, 2, 2]);
+    input.steps = entries(rng, &[3, 3, 3, 3]);
+    input.switches = entries(rng, &[2, 2, 2, 2, 10]);
+    input.cases = entries(rng, &[10, 3]);
+    input.ranges = entries(rng, &[10]);
+    let chain = [tag::CHAIN, rng.below(2) as u8, 0];
+    let switch = [tag::SWITCH, rng.below(2) as u8, 0];
+    input.code = vec![tag::UNIT; rng.between(1, 3)];
+    input.code.extend_from_slice(&chain);
+    input.code.extend_from_slice(&switch);
+    input.code.extend_from_slice(&[tag::UNIT, tag::RETURN]);
     finish(rng, input)
+}
+
+/// Up to three entries whose words are mostly below these bounds.
+fn entries(rng: &mut Rng, bounds: &[u32]) -> Vec<u32> {
+    let count = rng.between(0, 3);
+    let mut words = Vec::new();
+    for &bound in bounds.repeat(count).iter() {
+        let beyond = [bound, bound + 1, u32::MAX];
+        words.push(match rng.below(40) {
+            0 => rng.pick(&beyond),
+            _ => rng.below(bound as usize) as u32,
+        });
+    }
+    words
 }
 
 /// Pools of a few entries each, all of them good.
@@ -104,25 +118,44 @@ fn pools(rng: &mut Rng) -> Input {
     let mut input = Input {
         rights: rng.pick(&[u32::MAX, 0x1_ffff, 0x1_ffff, 0]),
         functions: rng.pick(&[0, 0, 1]),
-        constants: (0..constants).map(|_| rng.pick(&[0, 0, 0, rights::FLOAT])).collect(),
+        constants: (0..constants)
+            .map(|_| rng.pick(&[0, 0, 0, rights::FLOAT]))
+            .collect(),
         names: (0..names).map(|_| rng.pick(&[0, 0, 1])).collect(),
         tokens: rng.below(3) as u64,
         op_assignments: rng.below(3) as u64,
         ..Input::default()
     };
+    tables(rng, &mut input);
+    input
+}
+
+/// Chains without steps, and switches over one case and one range or none.
+fn tables(rng: &mut Rng, input: &mut Input) {
     for _ in 0..rng.below(3) {
         let operands = rng.below(3) as u32;
-        let entry = [rng.below(4) as u32, 0, operands, rng.below(3) as u32, 0, 0, 0];
+        let entry = [
+            rng.below(4) as u32,
+            0,
+            operands,
+            rng.below(3) as u32,
+            0,
+            0,
+            0,
+        ];
         input.chains.extend_from_slice(&entry);
     }
     for _ in 0..rng.below(3) {
-        let targets = [rng.below(20) as u32, rng.below(20) as u32, rng.below(20) as u32];
+        let targets = [
+            rng.below(20) as u32,
+            rng.below(20) as u32,
+            rng.below(20) as u32,
+        ];
         let spans = [0, rng.below(2) as u32, 0, rng.below(2) as u32, targets[0]];
         input.switches.extend_from_slice(&spans);
         input.cases.extend_from_slice(&[targets[1], 0]);
         input.ranges.push(targets[2]);
     }
-    input
 }
 
 /// Puts chunks over the code: one over all of it, or some at starts, or some anywhere.

@@ -3,7 +3,7 @@
 use super::rng::Rng;
 use super::shapes::{self, Field};
 use crate::input::{Chunk, Input};
-use crate::tables::tag;
+use crate::tables::{switch, tag};
 
 /// The elements lent in each of the four buffers.
 #[derive(Clone, Copy, Debug, Default, PartialEq, Eq)]
@@ -14,9 +14,18 @@ pub struct Room {
     pub work: usize,
 }
 
-/// No case lends more than this many elements in one buffer: the few inputs that need more
-/// are there to be refused for it.
+/// The most that is lent in one buffer. The few inputs that need more are there to be refused
+/// for it.
 const MOST: usize = 1 << 20;
+
+/// What is lent where so much is needed.
+fn affordable(need: usize) -> usize {
+    if need > MOST {
+        8
+    } else {
+        need
+    }
+}
 
 impl Room {
     /// Just enough of everything, counted here a second time and not asked of the oracle, so
@@ -29,8 +38,8 @@ impl Room {
         Room {
             marks: input.code.len() / 64 + 1,
             heights: input.chunks.len(),
-            records: records.min(MOST),
-            work: work.min(MOST),
+            records: affordable(records),
+            work: affordable(work),
         }
     }
 
@@ -96,14 +105,15 @@ fn arms(input: &Input, at: usize) -> (usize, usize) {
     }
 }
 
-/// Cases, ranges and default; none where no table stands behind the index.
+/// Cases, ranges and default; none where no table stands behind the index. A span that runs
+/// past its table is refused long before, so it is not counted in full.
 fn switch_arms(input: &Input, at: usize) -> usize {
-    let index = usize::from(u16::from_le_bytes([
-        input.code[at + 1],
-        input.code[at + 2],
-    ]));
-    match input.switches.chunks_exact(5).nth(index) {
-        Some(table) => table[1] as usize + table[3] as usize + 1,
-        None => 0,
-    }
+    let bytes = [input.code[at + 1], input.code[at + 2]];
+    let index = usize::from(u16::from_le_bytes(bytes));
+    let Some(table) = input.switches.chunks_exact(switch::WORDS).nth(index) else {
+        return 0;
+    };
+    let cases = table[switch::CASES] as usize;
+    let ranges = table[switch::RANGES] as usize;
+    cases.min(input.cases.len()) + ranges.min(input.ranges.len()) + 1
 }

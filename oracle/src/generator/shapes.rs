@@ -33,64 +33,13 @@ impl Field {
     }
 }
 
-/// Every tag once.
-pub const TAGS: [u8; 72] = all_tags();
-
-/// All tags but IMPORT are neighbours.
-const fn all_tags() -> [u8; 72] {
-    let mut tags = [tag::IMPORT; 72];
-    let mut i = 0;
-    while i < 71 {
-        tags[i] = i as u8 + 1;
-        i += 1;
-    }
-    tags
-}
-
 /// The operands in the order of their bytes; none for a byte that is no tag.
 pub fn fields(byte: u8) -> &'static [Field] {
     use Field::*;
     match byte {
-        tag::ROTATE
-        | tag::CURRY
-        | tag::CALL_FN_PTR
-        | tag::CALL_FN_PTR_CAPTURE
-        | tag::CALL_FN_PTR_METHOD
-        | tag::CALL_FN_PTR_ON_THIS => &[Few],
-        tag::UNWIND_TO
-        | tag::STATEMENT
-        | tag::SHARE
-        | tag::LOAD_SHARED
-        | tag::STORE_SHARED
-        | tag::LOAD_LOCAL
-        | tag::STORE_LOCAL
-        | tag::STORE_CONST
-        | tag::CHECK_ARRAY_SIZE
-        | tag::CHECK_MAP_SIZE => &[Slot],
-        tag::SHARE_NAMED
-        | tag::LOAD_SHARED_NAMED
-        | tag::MAKE_CLOSURE
-        | tag::LOAD_NAMED
-        | tag::DECLARE_LOCAL
-        | tag::DECLARE_CONST
-        | tag::DECLARE_GLOBAL_CONST
-        | tag::ASSIGN_NAMED
-        | tag::IMPORT => &[Name],
-        tag::ASSIGN_THIS_OP => &[OpAssignment],
-        tag::LOAD_CONST => &[Constant],
-        tag::CHAIN => &[Chain],
-        tag::MAKE_ARRAY | tag::MAKE_MAP => &[Many],
-        tag::SWITCH => &[Switch],
-        tag::CUSTOM_SYNTAX => &[Site],
         tag::CALL | tag::CALL_THIS_REF => &[Name, Few],
         tag::CALL_FN_PTR_ON_LOCAL => &[Few, Slot],
         tag::CALL_FN_PTR_ON_NAMED => &[Few, Name],
-        tag::JUMP
-        | tag::JUMP_IF_TRUE
-        | tag::JUMP_IF_FALSE
-        | tag::SKIP_IF_NOT_UNIT
-        | tag::ITER_NEXT
-        | tag::PUSH_HANDLER => &[Target],
         tag::EXPORT_LOCAL | tag::ASSIGN_LOCAL => &[Slot, Name],
         tag::EXPORT_NAMED => &[Name, Name],
         tag::ASSIGN_NAMED_OP => &[Name, OpAssignment],
@@ -99,6 +48,30 @@ pub fn fields(byte: u8) -> &'static [Field] {
         tag::CALL_NAMED_REF => &[Name, Few, Name],
         tag::ITER_NEXT_INDEXED | tag::PUSH_HANDLER_VAR => &[Target, Slot],
         tag::ASSIGN_LOCAL_OP => &[Slot, Name, OpAssignment],
+        _ => only_field(byte),
+    }
+}
+
+/// The operand of an instruction that has one.
+fn only_field(byte: u8) -> &'static [Field] {
+    use Field::*;
+    match byte {
+        tag::ROTATE..=tag::CALL_FN_PTR_ON_THIS => &[Few],
+        tag::UNWIND_TO | tag::STATEMENT | tag::SHARE => &[Slot],
+        tag::SHARE_NAMED | tag::LOAD_SHARED_NAMED => &[Name],
+        tag::LOAD_SHARED | tag::STORE_SHARED => &[Slot],
+        tag::ASSIGN_THIS_OP => &[OpAssignment],
+        tag::MAKE_CLOSURE | tag::LOAD_NAMED => &[Name],
+        tag::LOAD_CONST => &[Constant],
+        tag::LOAD_LOCAL | tag::STORE_LOCAL | tag::STORE_CONST => &[Slot],
+        tag::DECLARE_LOCAL | tag::DECLARE_CONST | tag::DECLARE_GLOBAL_CONST => &[Name],
+        tag::CHAIN => &[Chain],
+        tag::MAKE_ARRAY | tag::MAKE_MAP => &[Many],
+        tag::CHECK_ARRAY_SIZE | tag::CHECK_MAP_SIZE => &[Slot],
+        tag::SWITCH => &[Switch],
+        tag::CUSTOM_SYNTAX => &[Site],
+        tag::ASSIGN_NAMED | tag::IMPORT => &[Name],
+        tag::JUMP..=tag::PUSH_HANDLER => &[Target],
         _ => &[],
     }
 }
@@ -111,11 +84,6 @@ pub fn width(byte: u8) -> usize {
     } else {
         0
     }
-}
-
-/// The offset of the jump's target within an instruction, where it has one.
-pub fn target_offset(byte: u8) -> Option<usize> {
-    (fields(byte).first() == Some(&Field::Target)).then_some(1)
 }
 
 /// The starts met when the code is read from its first byte on, as far as it can be read.

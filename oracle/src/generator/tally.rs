@@ -76,10 +76,18 @@ impl fmt::Display for Tally {
         writeln!(f, "kind 1 by limit: {:?}", self.limits)?;
         writeln!(f, "kind 2 by table: {:?}", self.tables)?;
         writeln!(f, "kind 3 by buffer: {:?}", self.buffers)?;
-        writeln!(f, "kind 4 of a constant, of FUNCTION, in a walk: {:?}", self.rights)?;
+        writeln!(
+            f,
+            "kind 4 of a constant, of FUNCTION, in a walk: {:?}",
+            self.rights
+        )?;
         writeln!(f, "kind 6 by pool: {:?}", self.pools)?;
         writeln!(f, "kind 11 with equal operands: {}", self.hidden_conflicts)?;
         writeln!(f, "refused after a good chunk: {}", self.later_chunks)?;
-        writeln!(f, "accepted, two chunks or more, with a merge: {}", self.merging)
+        writeln!(
+            f,
+            "accepted, two chunks or more, with a merge: {}",
+            self.merging
+        )
     }
 }

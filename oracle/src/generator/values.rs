@@ -6,8 +6,21 @@ use crate::tables::tag;
 
 pub fn expression(builder: &mut Builder) {
     const RICH: &[Part] = &[
-        value, value, value, changed, call, call, pointer_call, array, map, text, chain,
-        chain, either, coalesce, rotated,
+        value,
+        value,
+        value,
+        changed,
+        call,
+        call,
+        pointer_call,
+        array,
+        map,
+        text,
+        chain,
+        chain,
+        either,
+        coalesce,
+        rotated,
     ];
     choose(builder, RICH, &[value])(builder);
 }

@@ -1,16 +1,16 @@
 -- `code::width_at` meets its contract: its tests are those of the definition, in the same order.
-use mathlib.Core.Path.{_∙_, ap, sym}
+use Prim.Native.Nat.{_+_}
 use native.Mathlib.Omega.{arith}
 use borrow.Author.Needs.{needs}
-use Rattle.code.specs.Told.{found}
-use Rattle.code.specs.Width.{numbered, widthOf}
-use Rattle.code.proofs.Widths.{told-past, told-unknown, told-width, told-cut}
+use borrow.Author.Tests.{le-leb, lt-leb, ne-eqb}
+use lib.ListN.{length}
+use Rattle.code.specs.Width.{numbered, toldBy}
 use Rattle.code.proofs.width_at.Statement.{statement}
 use Rattle.code.proofs.width_at.Tie as tie
 
 returns : tie.Need-returns
-unfolding numbered
-returns c = sym (told-past widthOf _ _ (c .if1 .taken))
+unfolding numbered toldBy
+returns c = simp (le-leb _ _ (c .if1 .taken))
 
 shared-slice-read-width-of : tie.Need-shared-slice-read-width-of
 shared-slice-read-width-of c = search needs
@@ -19,24 +19,27 @@ width-of-requires : tie.Need-width-of-requires
 width-of-requires c κs = search needs
 
 returns-2 : tie.Need-returns-2
-unfolding numbered
-returns-2 c = sym (told-unknown widthOf _ _ (c .before .before .before .if1 .left) (sym (c .before .width-of .ensures) ∙ c .if2 .taken))
+unfolding numbered toldBy
+returns-2 c = simp (lt-leb _ _ (c .before .before .before .if1 .left), ← c .before .width-of .ensures, c .if2 .taken)
 
 sub-if3 : tie.Need-sub-if3
 sub-if3 c = search needs
 
 returns-3 : tie.Need-returns-3
-unfolding numbered
+unfolding numbered toldBy
 returns-3 c =
-    let w = c .before .before .width-of .ensures in
-    ap found w
-    ∙ sym (told-width widthOf _ _ (c .before .before .before .before .if1 .left) (λ e. c .before .if2 .left (w ∙ e)) (omega (arith, w)))
+    let start = c .before .before .before .before .before .before in
+    let end = start .args .at + c .before .before .width-of .result in
+    simp (lt-leb _ _ (c .before .before .before .before .if1 .left), ← c .before .before .width-of .ensures,
+    ne-eqb _ _ (c .before .if2 .left), le-leb end (length (start .args .code .now)) (omega arith))
 
 returns-4 : tie.Need-returns-4
-unfolding numbered
+unfolding numbered toldBy
 returns-4 c =
-    let w = c .before .before .width-of .ensures in
-    sym (told-cut widthOf _ _ (c .before .before .before .before .if1 .left) (λ e. c .before .if2 .left (w ∙ e)) (omega (arith, w)))
+    let start = c .before .before .before .before .before .before in
+    let end = start .args .at + c .before .before .width-of .result in
+    simp (lt-leb _ _ (c .before .before .before .before .if1 .left), ← c .before .before .width-of .ensures,
+    ne-eqb _ _ (c .before .if2 .left), lt-leb end (length (start .args .code .now)) (omega arith))
 
 pub width-at-spec : {M : Type 1} → statement M
 width-at-spec =

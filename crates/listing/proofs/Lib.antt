@@ -1,0 +1,3 @@
+pub mod WalkLaws
+pub mod Starts
+pub mod Items
