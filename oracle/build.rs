@@ -46,7 +46,7 @@ const TAGS: [(u8, &str); 7] = [
 /// the old text and the new one.
 type Swap = (&'static str, usize, &'static str, &'static str);
 
-/// Paths lead to the module that holds the texts and the stubs.
+/// Paths lead to the module that holds the texts and the stubs; effects are document 01's.
 const VERIFY: [Swap; 13] = [
     (
         "paths",

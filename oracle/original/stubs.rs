@@ -8,6 +8,7 @@ use std::ops::{BitOr, Deref, Sub};
 use std::rc::Rc;
 
 /// The original's integer, which a text names and does not use once `constant_caps` is cut.
+#[allow(clippy::upper_case_acronyms)]
 pub type INT = i64;
 
 /// A constant: all that is known of it is the rights word that the caller lends.

@@ -7,6 +7,7 @@
 //! - `generator`: cases to try a verifier on, each repeated by its seed.
 //! - `compare`: the oracle and another verifier on the same case, down to each element.
 //! - `mocks`: wrong verifiers, which the comparison has to tell from the right one.
+//! - `original`: the code that the oracle stands for, compiled where its text is at hand.
 
 pub mod compare;
 pub mod generator;

@@ -3,3 +3,4 @@ pub mod Entries
 pub mod Widths
 pub mod Little
 pub mod Once
+pub mod Layouts

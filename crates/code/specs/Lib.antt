@@ -1,3 +1,5 @@
 pub mod Told
 pub mod Width
 pub mod Numbers
+pub mod Tags
+pub mod Layout

@@ -3,7 +3,7 @@
 use mathlib.Core.Bool.{cond}
 use mathlib.Core.List.{List, [], _∷_}
 use Prim.Native.Nat.{ℕ, _+_, _<_}
-use lib.Dec.{leb, eqb}
+use lib.Dec.{ltb, leb, eqb}
 use lib.ListN.{length, getD}
 use Rattle.code.specs.Width.{widthOf, widthBy}
 use Rattle.listing.specs.Walk.{walk}
@@ -49,6 +49,10 @@ module _ (table : ℕ → ℕ) (code : List ℕ) where
   -- the offset at which they stop
   unfoldable pub stopBy : ℕ → ℕ
   stopBy at = walk (widthBy table code) (λ i end. end) (λ i. i) (length code) at
+
+  -- the starts from an offset on that lie before an end
+  unfoldable pub startsBefore : (end at : ℕ) → List ℕ
+  startsBefore end at = walk (λ i. cond (ltb i end) (widthBy table code i) 0) _∷_ (λ i. []) (length code) at
 
   -- an instruction starts here: at the code's first byte or right after another, and it has a width
   pub data Start : ℕ → Type 0 where

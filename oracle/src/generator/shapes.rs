@@ -100,3 +100,42 @@ pub fn starts(code: &[u8]) -> Vec<usize> {
     }
     found
 }
+
+#[cfg(test)]
+mod tests {
+    use super::*;
+    use crate::tables::{self, Pool};
+
+    #[test]
+    fn widths_are_those_of_the_tables() {
+        for byte in 0..=255 {
+            assert_eq!(width(byte), tables::width(byte), "{byte:#x}");
+        }
+    }
+
+    #[test]
+    fn looked_up_operands_are_those_of_the_tables() {
+        for byte in 0..=255 {
+            let mut found = Vec::new();
+            let mut offset = 1;
+            for &field in fields(byte) {
+                found.extend(pool(field).map(|pool| (offset, pool)));
+                offset += field.size();
+            }
+            assert_eq!(found, tables::indices(byte), "{byte:#x}");
+        }
+    }
+
+    fn pool(field: Field) -> Option<Pool> {
+        match field {
+            Field::Name => Some(Pool::Name),
+            Field::Constant => Some(Pool::Constant),
+            Field::Token => Some(Pool::Operator),
+            Field::OpAssignment => Some(Pool::OpAssignment),
+            Field::Chain => Some(Pool::Chain),
+            Field::Switch => Some(Pool::Switch),
+            Field::Site => Some(Pool::Site),
+            Field::Slot | Field::Few | Field::Many | Field::Target => None,
+        }
+    }
+}

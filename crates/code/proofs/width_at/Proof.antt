@@ -30,16 +30,24 @@ unfolding numbered toldBy
 returns-3 c =
     let start = c .before .before .before .before .before .before in
     let end = start .args .at + c .before .before .width-of .result in
-    simp (lt-leb _ _ (c .before .before .before .before .if1 .left), ← c .before .before .width-of .ensures,
-    ne-eqb _ _ (c .before .if2 .left), le-leb end (length (start .args .code .now)) (omega arith))
+    simp (
+      lt-leb _ _ (c .before .before .before .before .if1 .left),
+      ← c .before .before .width-of .ensures,
+      ne-eqb _ _ (c .before .if2 .left),
+      le-leb end (length (start .args .code .now)) (omega arith),
+    )
 
 returns-4 : tie.Need-returns-4
 unfolding numbered toldBy
 returns-4 c =
     let start = c .before .before .before .before .before .before in
     let end = start .args .at + c .before .before .width-of .result in
-    simp (lt-leb _ _ (c .before .before .before .before .if1 .left), ← c .before .before .width-of .ensures,
-    ne-eqb _ _ (c .before .if2 .left), lt-leb end (length (start .args .code .now)) (omega arith))
+    simp (
+      lt-leb _ _ (c .before .before .before .before .if1 .left),
+      ← c .before .before .width-of .ensures,
+      ne-eqb _ _ (c .before .if2 .left),
+      lt-leb end (length (start .args .code .now)) (omega arith),
+    )
 
 pub width-at-spec : {M : Type 1} → statement M
 width-at-spec =

@@ -1,0 +1,2 @@
+// What one instruction needs, does and leads to.
+pub fn nothing() {}
