@@ -32,6 +32,7 @@ const DAMAGES: &[Damage] = &[
     word,
     right,
     right,
+    right,
     ragged,
     declared,
     declared,
@@ -230,12 +231,15 @@ fn word(rng: &mut Rng, input: &mut Input) {
     }
 }
 
-/// The script may do one thing less, or nothing.
+/// The script may do one thing less than it could, or nothing.
 fn right(rng: &mut Rng, input: &mut Input) {
-    if rng.one_in(6) {
-        input.rights = 0;
-    } else {
-        input.rights &= !(1 << rng.below(17));
+    let given: Vec<u32> = (0..17).filter(|bit| input.rights >> bit & 1 == 1).collect();
+    match place(rng, &given) {
+        Some(index) if !rng.one_in(6) => input.rights &= !(1 << given[index]),
+        _ => input.rights = 0,
+    }
+    if rng.one_in(2) {
+        input.functions = 0;
     }
 }
 

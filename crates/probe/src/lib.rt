@@ -1,0 +1,103 @@
+// Exports for the tests from Rust: inner functions behind the C calling convention, total and with no `requires`.
+// No part of the product: nothing depends on this crate. Each answer is the numbers of the definition that it cites.
+ghost use mathlib.Core.Path.{_≡_};
+ghost use Rattle.code.specs.Numbers.{numberAt};
+ghost use Rattle.code.specs.Width.{toldAt};
+ghost use Rattle.listing.specs.Listing.{listedAt};
+ghost use Rattle.probe.specs.Same.{SameTold, SameListed};
+
+use code::Number16;
+use code::Number32;
+use code::Width;
+use listing::Listed;
+
+// An answer in numbers: which case it is, and its value.
+#[repr(C)]
+pub struct Told {
+    pub number: u64,
+    pub value: u64,
+}
+
+// A listed item in numbers.
+#[repr(C)]
+pub struct ListedTold {
+    pub number: u64,
+    pub at: u64,
+    pub tag: u64,
+    pub width: u64,
+    pub next: u64,
+}
+
+#[no_mangle]
+pub extern "C" fn probe_width(code: &[u8], at: usize) -> Told
+    ensures { λ r. ⌜ SameTold r (toldAt (now (code .entry)) at) ⌝ }
+{
+    let width = code::width_at(code, at);
+    match width {
+        Width::Of(size) => Told {
+            number: 0,
+            value: size as u64,
+        },
+        Width::NoByte => Told { number: 1, value: 0 },
+        Width::UnknownTag => Told { number: 2, value: 0 },
+        Width::CutOff => Told { number: 3, value: 0 },
+    }
+}
+
+#[no_mangle]
+pub extern "C" fn probe_u16(code: &[u8], at: usize) -> Told
+    ensures { λ r. ⌜ SameTold r (numberAt 2 (now (code .entry)) at) ⌝ }
+{
+    let number = code::u16_at(code, at);
+    match number {
+        Number16::Is(value) => Told {
+            number: 0,
+            value: value as u64,
+        },
+        Number16::CutOff => Told { number: 1, value: 0 },
+    }
+}
+
+#[no_mangle]
+pub extern "C" fn probe_u32(code: &[u8], at: usize) -> Told
+    ensures { λ r. ⌜ SameTold r (numberAt 4 (now (code .entry)) at) ⌝ }
+{
+    let number = code::u32_at(code, at);
+    match number {
+        Number32::Is(value) => Told {
+            number: 0,
+            value: value as u64,
+        },
+        Number32::CutOff => Told { number: 1, value: 0 },
+    }
+}
+
+#[no_mangle]
+pub extern "C" fn probe_item(code: &[u8], at: usize) -> ListedTold
+    ensures { λ r. ⌜ SameListed r (listedAt (now (code .entry)) at) ⌝ }
+{
+    let listed = listing::item_at(code, at);
+    match listed {
+        Listed::Instruction(item) => ListedTold {
+            number: 0,
+            at: item.at as u64,
+            tag: item.tag as u64,
+            width: item.width as u64,
+            next: item.next as u64,
+        },
+        Listed::End => ListedTold {
+            number: 1,
+            at: 0,
+            tag: 0,
+            width: 0,
+            next: 0,
+        },
+        Listed::NoWidth(place) => ListedTold {
+            number: 2,
+            at: place as u64,
+            tag: 0,
+            width: 0,
+            next: 0,
+        },
+    }
+}
