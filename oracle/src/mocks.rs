@@ -87,7 +87,7 @@ macro_rules! each_slip {
 }
 
 /// Slips that no answer tells: `height_at_only`, since the depth just after an instruction is
-/// the depth at the one that follows it, or less than that before it.
+/// the depth at the one that follows, and where none follows it is less than the depth before.
 const SILENT: usize = 1;
 
 /// The wrong readings that are built into the oracle.
@@ -200,7 +200,8 @@ fn only_first(input: &Input, memory: &mut Memory) -> Verdict {
 fn misread_rights() -> Vec<Mock> {
     vec![
         asked("only the flag 1 makes a name qualified", |input| {
-            input.names.iter_mut().for_each(|flag| *flag &= 1);
+            let names = input.names.iter_mut();
+            names.for_each(|flag| *flag = u8::from(*flag == 1));
         }),
         asked("no name is qualified", |input| input.names.fill(0)),
         asked("rights have 17 bits", |input| input.rights |= !0x1_ffff),

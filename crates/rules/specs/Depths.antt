@@ -1,13 +1,9 @@
--- Depths: how many operands, iterators and handlers there are at a place. An item: a place that control arrives at, with its depths.
--- Document 01: "The walk starts with (entry, 0, 0, 0)"; "dropped if all three depths agree, else 11".
+-- Depths: how many operands, iterators and handlers there are at a place. An item: a place that control arrives at, with its
+-- depths. Document 01: "The walk starts with (entry, 0, 0, 0)"; "dropped if all three depths agree, else 11".
 use mathlib.Core.Bool.{Bool, _&&_}
 use Prim.Native.Nat.{ℕ}
 use lib.Dec.{eqb}
-
-pub record Depths : Type 0 where
-  pub operands : ℕ
-  pub iterators : ℕ
-  pub handlers : ℕ
+use Rattle.rules.specs.declared.Depths.{Depths}
 
 abbrev pub zeros : Depths
 zeros = record { operands = 0; iterators = 0; handlers = 0 }

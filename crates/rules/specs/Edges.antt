@@ -12,7 +12,8 @@ use Rattle.code.specs.Tags.{RETURN, THROW, ITER-INIT, ITER-DROP, POP-HANDLER, S
 use Rattle.code.specs.Width.{widthOf, widthAt}
 use Rattle.listing.specs.Listing.{startsBefore}
 use Rattle.pools.specs.Pools.{Switch, Case, switchAt, casesOf, rangesOf}
-use Rattle.rules.specs.Depths.{Depths, Item}
+use Rattle.rules.specs.declared.Depths.{Depths}
+use Rattle.rules.specs.Depths.{Item}
 use Rattle.rules.specs.Effects.{pops, pushes}
 use Rattle.rules.specs.Script.{Script, Span, tagOf}
 

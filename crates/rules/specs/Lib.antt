@@ -5,3 +5,8 @@ pub mod Rights
 pub mod Edges
 pub mod Paths
 pub mod Writing
+pub mod Answer
+pub mod Machine
+pub mod Walk
+pub mod Rule
+pub mod Chunk

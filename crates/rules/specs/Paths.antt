@@ -7,7 +7,8 @@ use Prim.Native.Nat.{ℕ, _≤_}
 use lib.Dec.{eqb}
 use Rattle.code.specs.Layout.{among}
 use Rattle.code.specs.Tags.{ITER-DROP, POP-HANDLER, ITER-NEXT, ITER-NEXT-INDEXED}
-use Rattle.rules.specs.Depths.{Depths, Item, zeros}
+use Rattle.rules.specs.declared.Depths.{Depths}
+use Rattle.rules.specs.Depths.{Item, zeros}
 use Rattle.rules.specs.Edges.{after, edges}
 use Rattle.rules.specs.Effects.{needs}
 use Rattle.rules.specs.Rights.{required, lacking}

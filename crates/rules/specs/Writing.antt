@@ -6,7 +6,8 @@ use mathlib.Core.List.{List·Memᴰ}
 use mathlib.Core.Option.{Option, some}
 use mathlib.Core.Path.{_≡_}
 use Prim.Native.Nat.{ℕ, _≤_}
-use Rattle.rules.specs.Depths.{Depths, Item, zeros}
+use Rattle.rules.specs.declared.Depths.{Depths}
+use Rattle.rules.specs.Depths.{Item, zeros}
 use Rattle.rules.specs.Edges.{after, edges}
 use Rattle.rules.specs.Paths.{Able}
 use Rattle.rules.specs.Script.{Script, Span, InChunk}

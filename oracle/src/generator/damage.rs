@@ -42,6 +42,7 @@ const DAMAGES: &[Damage] = &[
     empty_chunk,
     constant,
     foreign_site,
+    crowd,
 ];
 
 /// A good program with one thing changed, or up to three.
@@ -328,10 +329,15 @@ fn swap(rng: &mut Rng, input: &mut Input) {
 /// There are no custom syntax sites, so the index is bad even where it is never reached.
 fn foreign_site(rng: &mut Rng, input: &mut Input) {
     let index = rng.pick(&[0, 1, 255]);
-    input
-        .code
-        .extend_from_slice(&[tag::CUSTOM_SYNTAX, index, 0]);
-    if rng.one_in(20) {
-        input.tokens = rng.pick(&[limit::TOKENS, limit::TOKENS + 1, u64::MAX]);
+    let instruction = [tag::CUSTOM_SYNTAX, index, 0];
+    input.code.extend_from_slice(&instruction);
+}
+
+/// A bare count at its limit or past it, which costs nothing to make.
+fn crowd(rng: &mut Rng, input: &mut Input) {
+    let size = rng.pick(&[0, 1, 1, 1 << 32, u64::MAX - limit::TOKENS]);
+    match rng.below(2) {
+        0 => input.tokens = limit::TOKENS + size,
+        _ => input.op_assignments = limit::OP_ASSIGNMENTS + size,
     }
 }

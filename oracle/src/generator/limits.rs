@@ -133,15 +133,12 @@ fn switched(input: &mut Input, cases: bool, count: usize) {
 
 /// Numbers that pass 16 or 32 bits on the way.
 pub fn extreme(rng: &mut Rng) -> Case {
+    let operands = rng.pick(&[65_536, u32::MAX]);
     let input = match rng.below(4) {
         0 => deepest(rng),
         1 => crowded(rng),
-        2 => hungry(rng, &[tag::MAKE_MAP, 0, 0x80], 0),
-        _ => hungry(
-            rng,
-            &[tag::CHAIN, 0, 0],
-            rng.clone().pick(&[65_536, u32::MAX]),
-        ),
+        2 => hungry(rng, &[tag::MAKE_MAP, 0, 0x80], operands),
+        _ => hungry(rng, &[tag::CHAIN, 0, 0], operands),
     };
     let room = Room::enough(rng, &input);
     Case { input, room }
@@ -204,10 +201,10 @@ pub fn at_a_word(rng: &mut Rng) -> Case {
 pub fn at_the_room(rng: &mut Rng) -> Case {
     let input = good(rng);
     let mut room = Room::enough(rng, &input);
-    let exact = Room::exact(&input);
+    let mut exact = Room::exact(&input);
     for _ in 0..rng.pick(&[1, 1, 2]) {
         let buffer = rng.between(1, 4);
-        let most = *exact.clone().size(buffer);
+        let most = *exact.size(buffer);
         *room.size(buffer) = rng.pick(&[most, most.saturating_sub(1), 0, most + 64]);
     }
     if rng.one_in(4) {
