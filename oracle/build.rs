@@ -1,4 +1,5 @@
-//! Makes the original ready to compile: its published text, with document 01's tables put in.
+//! Says where the proved libraries lie, and makes the original ready to compile: its published
+//! text, with document 01's tables put in.
 //!
 //! The text is not in this repository. It is read from `../shared/docs/src`, seen from the
 //! repository's root. Where that folder is absent, nothing is made, and the comparisons with
@@ -175,6 +176,7 @@ struct Edit {
 }
 
 fn main() {
+    link();
     println!("cargo:rustc-check-cfg=cfg(original)");
     println!("cargo:rustc-check-cfg=cfg(feature, values({FEATURES}))");
     println!("cargo:rerun-if-changed=build.rs");
@@ -187,6 +189,13 @@ fn main() {
     make(&source, &variable("OUT_DIR").join("original"));
     println!("cargo:rustc-cfg=original");
     println!("cargo:rustc-cfg=feature=\"no_ast\"");
+}
+
+/// Where `rt staticlib` puts the proved libraries that the tests link.
+fn link() {
+    let libraries = variable("CARGO_MANIFEST_DIR").join("../target/staticlib");
+    println!("cargo:rustc-link-search=native={}", libraries.display());
+    println!("cargo:rerun-if-changed={}", libraries.display());
 }
 
 fn variable(name: &str) -> PathBuf {

@@ -164,8 +164,11 @@ fn listing_equals_the_original() {
     #[cfg(original)]
     for seed in 0..20_000 {
         let code = generator::case(seed).input.code;
-        let items: Vec<(usize, usize)> = read(&code).0.iter().map(|&(at, _, w)| (at, w)).collect();
-        assert_eq!(items, oracle::original::disassemble(&code), "seed {seed}");
+        assert_eq!(
+            read(&code).0,
+            oracle::original::disassemble(&code),
+            "seed {seed}"
+        );
     }
 }
 
