@@ -7,17 +7,10 @@ use native.Mathlib.Omega.{arith}
 use lib.ListN.{length}
 use Rattle.code.specs.Width.{widthBy}
 use Rattle.code.proofs.Widths.{width-there}
+use Rattle.marks.specs.Marks.{Rising, empty, next as after, Holds, Words, total, onesBelow, below}
+use Rattle.marks.proofs.Counts.{rising-lower, holds-below, holds-total}
 use Rattle.listing.specs.Listing.{startsBy, stopBy, Start, first, next}
 use Rattle.listing.proofs.WalkLaws.{Within, walk-on, walk-stop}
-
--- from a bound on, each place after the one before it
-pub data Rising : ℕ → List ℕ → Type 0 where
-  none : {low : ℕ} → Rising low []
-  more : {low at : ℕ} {ats : List ℕ} → low ≤ at → Rising (suc at) ats → Rising low (at ∷ ats)
-
-pub lower : {a b : ℕ} {ats : List ℕ} → b ≤ a → Rising a ats → Rising b ats
-lower h none = none
-lower {b = b} h (more {at = at} l r) = let g : b ≤ at = omega arith in more g r
 
 -- a number is 0 or more
 pub some-or-none : (n : ℕ) → (n ≡ 0) ⊎ (0 < n)
@@ -66,8 +59,8 @@ module _ (table : ℕ → ℕ) (code : List ℕ) where
   -- in order and each once
   pub rising : (at : ℕ) → Rising at (startsBy table code at)
   rising =
-      from-end (λ at. Rising at (startsBy table code at)) (λ at e. rw (starts-stop at e) none)
-      (λ at p r. rw (starts-on at p) (more {low = at} {at = at} (omega arith) (lower (omega arith) r)))
+      from-end (λ at. Rising at (startsBy table code at)) (λ at e. rw (starts-stop at e) empty)
+      (λ at p r. rw (starts-on at p) (after {from = at} {at = at} (omega arith) (rising-lower (omega arith) r)))
 
   -- each place that is listed is a start
   pub listed-start : (i : ℕ) → List·Memᴰ i (startsBy table code 0) → Start table code i
@@ -99,3 +92,11 @@ module _ (table : ℕ → ℕ) (code : List ℕ) where
   -- each start is listed
   pub start-listed : (i : ℕ) → Start table code i → List·Memᴰ i (startsBy table code 0)
   start-listed i s = later s i (rw (starts-on i (start-wide s)) (List·Memᴰ·head refl))
+
+  -- marks that hold exactly the starts have as many ones below an offset as there are starts below it, and as many in all
+  -- as there are starts
+  pub starts-below : (marks : List ℕ) → Holds marks (startsBy table code 0) → (n : ℕ) → onesBelow marks n ≡ below (startsBy table code 0) n
+  starts-below marks h = holds-below marks (startsBy table code 0) h (rising 0)
+
+  pub starts-total : (marks : List ℕ) → Words marks → Holds marks (startsBy table code 0) → total marks ≡ length (startsBy table code 0)
+  starts-total marks w h = holds-total marks (startsBy table code 0) w h (rising 0)

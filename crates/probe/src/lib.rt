@@ -1,11 +1,12 @@
 // Exports for the tests from Rust: inner functions behind the C calling convention, total and with no `requires`.
 // No part of the product: nothing depends on this crate. Each answer is the numbers of the definition that it cites.
 ghost use mathlib.Core.Path.{_≡_};
+ghost use lib.ListN.{length, replicate};
 ghost use Rattle.code.specs.Numbers.{numberAt};
 ghost use Rattle.code.specs.Width.{toldAt};
 ghost use Rattle.listing.specs.Listing.{listedAt};
-ghost use Rattle.probe.specs.Same.{SameTold, SameListed};
-
+ghost use Rattle.marks.specs.Marks.{bitAt, marked, total};
+ghost use Rattle.probe.specs.Same.{SameTold, SameListed, SetStart, countOf};
 use code::Number16;
 use code::Number32;
 use code::Width;
@@ -38,9 +39,18 @@ pub extern "C" fn probe_width(code: &[u8], at: usize) -> Told
             number: 0,
             value: size as u64,
         },
-        Width::NoByte => Told { number: 1, value: 0 },
-        Width::UnknownTag => Told { number: 2, value: 0 },
-        Width::CutOff => Told { number: 3, value: 0 },
+        Width::NoByte => Told {
+            number: 1,
+            value: 0,
+        },
+        Width::UnknownTag => Told {
+            number: 2,
+            value: 0,
+        },
+        Width::CutOff => Told {
+            number: 3,
+            value: 0,
+        },
     }
 }
 
@@ -54,7 +64,10 @@ pub extern "C" fn probe_u16(code: &[u8], at: usize) -> Told
             number: 0,
             value: value as u64,
         },
-        Number16::CutOff => Told { number: 1, value: 0 },
+        Number16::CutOff => Told {
+            number: 1,
+            value: 0,
+        },
     }
 }
 
@@ -68,7 +81,10 @@ pub extern "C" fn probe_u32(code: &[u8], at: usize) -> Told
             number: 0,
             value: value as u64,
         },
-        Number32::CutOff => Told { number: 1, value: 0 },
+        Number32::CutOff => Told {
+            number: 1,
+            value: 0,
+        },
     }
 }
 
@@ -100,4 +116,41 @@ pub extern "C" fn probe_item(code: &[u8], at: usize) -> ListedTold
             next: 0,
         },
     }
+}
+
+#[no_mangle]
+pub extern "C" fn probe_clear(marks: &mut [u64])
+    ensures { λ r. ⌜ now (marks .exit) ≡ replicate (length (now (marks .entry))) 0 ⌝ }
+{
+    marks::clear(marks);
+}
+
+// 1 where the place lies within the words, and 0 with nothing stored where it does not.
+#[no_mangle]
+pub extern "C" fn probe_set_start(marks: &mut [u64], at: usize) -> u32
+    ensures { λ r. ⌜ SetStart (now (marks .entry)) at (now (marks .exit)) r ⌝ }
+{
+    if marks.len() <= at / 64 {
+        return 0;
+    }
+    marks::set_start(marks, at);
+    1
+}
+
+#[no_mangle]
+pub extern "C" fn probe_starts_at(marks: &[u64], at: usize) -> u32
+    ensures { λ r. ⌜ r ≡ bitAt (now (marks .entry)) at ⌝ }
+{
+    if marks::starts_at(marks, at) { 1 } else { 0 }
+}
+
+// The count where it fits for sure, and 0 for more words than any test lends.
+#[no_mangle]
+pub extern "C" fn probe_count(marks: &[u64]) -> u64
+    ensures { λ r. ⌜ r ≡ countOf (now (marks .entry)) ⌝ }
+{
+    if 65536 < marks.len() {
+        return 0;
+    }
+    marks::count(marks)
 }
