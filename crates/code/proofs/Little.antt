@@ -1,13 +1,12 @@
 -- Numbers of several bytes: cut in two, and told from the bytes that are there.
-use mathlib.Core.Bool.{cond}
 use mathlib.Core.List.{List}
-use mathlib.Core.Path.{_≡_, refl, ap}
-use Prim.Native.Nat.{ℕ, zero, suc, _+_, _*_, _^_, _≤_, _<_}
+use mathlib.Core.Path.{_≡_, ap}
+use Prim.Native.Nat.{ℕ, _+_, _*_, _≤_, _<_}
 use native.Mathlib.Omega.{arith}
 use borrow.Author.Tests.{le-leb, lt-leb}
 use lib.ListN.{length, getD}
 use Rattle.code.specs.Numbers.{little, numberAt}
-use Rattle.code.specs.Told.{Told, found, without}
+use Rattle.code.specs.Told.{found, without}
 
 -- where the bytes are there, the number is told
 pub number-there : (n : ℕ) (code : List ℕ) (at : ℕ) → at + n ≤ length code → found (little n code at) ≡ numberAt n code at

@@ -1,16 +1,14 @@
 -- What is listed at an offset, from what is told of the width there.
-use mathlib.Core.Bool.{cond}
 use mathlib.Core.List.{List}
 use mathlib.Core.Path.{_≡_, sym, ap}
-use Prim.Native.Nat.{ℕ, _≤_, _<_}
+use Prim.Native.Nat.{ℕ, _<_}
 use native.Mathlib.Omega.{arith}
-use borrow.Author.Tests.{le-leb, lt-leb, ne-eqb, eq-eqb}
-use lib.Dec.{eqb, leb}
+use borrow.Author.Tests.{le-leb, lt-leb, ne-eqb}
 use lib.ListN.{length, getD}
 use Rattle.code.specs.Told.{Told, found, without}
 use Rattle.code.specs.Width.{toldBy, widthBy}
 use Rattle.code.proofs.Widths.{wide, told-past, told-byte}
-use Rattle.listing.specs.Listing.{ListedTold, instruction, atEnd, noWidth, endingAt, listedBy}
+use Rattle.listing.specs.Listing.{instruction, atEnd, noWidth, endingAt, listedBy}
 
 module _ (table : ℕ → ℕ) (code : List ℕ) (at : ℕ) where
   value : {t : Told} → t ≡ toldBy table code at → widthBy table code at ≡ t .value

@@ -1,3 +1,6 @@
 pub mod WalkLaws
 pub mod Starts
 pub mod Items
+pub mod Once
+pub mod Reading
+pub mod Returned

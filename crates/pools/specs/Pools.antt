@@ -2,7 +2,7 @@
 -- Temporary), name, operands, tail (0 Read, 1 Assign, 2 Assign with operator), operator, first step, steps. Step: kind (0
 -- Index, 1 Property, 2 Method), name, getter, setter. Switch: first case, cases, first range, ranges, default. Case: target,
 -- constant. Range: target."
-use mathlib.Core.List.{List, [], _∷_, map}
+use mathlib.Core.List.{List, [], _∷_}
 use Prim.Native.Nat.{ℕ, zero, suc, _+_, _*_, _/_}
 use lib.ListN.{length, getD}
 

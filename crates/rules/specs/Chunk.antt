@@ -1,10 +1,10 @@
 -- One chunk judged. Document 01, "Order of the tests": "A chunk: 7; 8 if the entry is neither a start nor the code's length;
 -- room for records, work; walk; 14."
-use mathlib.Core.Bool.{Bool, not, _&&_, _||_, cond}
-use mathlib.Core.List.{List, []}
+use mathlib.Core.Bool.{true, not, _||_, cond}
+use mathlib.Core.List.{[]}
 use mathlib.Core.Path.{_≡_}
 use Prim.Native.Nat.{ℕ, _+_, _*_, _≤_, _<_}
-use lib.Dec.{ltb, leb, eqb}
+use lib.Dec.{ltb, eqb}
 use lib.ListN.{length}
 use Rattle.code.specs.Layout.{among, indexAt}
 use Rattle.code.specs.Tags.{CHAIN, SWITCH}
@@ -16,7 +16,7 @@ use Rattle.rules.specs.declared.Answer.the-variants.{NoRoom, ChunkOutOfR
 use Rattle.rules.specs.Edges.{T, E}
 use Rattle.rules.specs.Rule.{machine}
 use Rattle.rules.specs.Script.{Script, Span, tagOf}
-use Rattle.rules.specs.Walk.{Book, Run, accepted, refused, unfinished, Log, log, walk}
+use Rattle.rules.specs.Walk.{Run, accepted, refused, unfinished, Log, log, walk}
 
 -- a chunk passes with its height and its two counts, or fails with an answer
 pub data Judged : Type 0 where
@@ -59,4 +59,4 @@ pub record BeforeWalk (S : Script) (span : Span) : Type 0 where
       → switchAt (S .pools .switches) i .firstRange + switchAt (S .pools .switches) i .ranges ≤ length (S .pools .ranges)
   pub in-order : span .entry ≤ span .end
   pub in-code : span .end ≤ length (S .code)
-  pub aligned : among (span .entry) (starts (S .code)) || eqb (span .entry) (length (S .code)) ≡ Bool.true
+  pub aligned : among (span .entry) (starts (S .code)) || eqb (span .entry) (length (S .code)) ≡ true

@@ -2,7 +2,7 @@
 -- p only what lacks); 12; 15 for ITER_DROP, 16 for POP_HANDLER; then edges, each target tested for 9, then 10, and the
 -- fall-through pushed last. ITER_NEXT* tests 15 before its target [...]. A plain instruction whose successor is not before the
 -- end gives 13."
-use mathlib.Core.Bool.{Bool, _&&_, _||_, cond}
+use mathlib.Core.Bool.{_&&_, _||_, cond}
 use mathlib.Core.List.{List, [], _∷_, _++_, map}
 use mathlib.Core.Option.{Option, none, some}
 use Prim.Native.Nat.{ℕ}
@@ -12,7 +12,6 @@ use Rattle.listing.specs.Listing.{starts}
 use Rattle.rules.specs.declared.Answer.{Answer}
 use Rattle.rules.specs.declared.Answer.the-variants.{MissingCaps, JumpOutOfRange, JumpIntoAnInstruction, DepthConflict, Underflow, FallsOffTheEnd, IteratorUnderflow, HandlerUnderflow}
 use Rattle.rules.specs.declared.Depths.{Depths}
-use Rattle.rules.specs.Depths.{Item}
 use Rattle.rules.specs.Edges.{falls, plain, targets, after, jumped, next, chunkStarts}
 use Rattle.rules.specs.Effects.{needs}
 use Rattle.rules.specs.Machine.{Ruling, denies, gives, Machine}

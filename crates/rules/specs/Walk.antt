@@ -2,7 +2,7 @@
 -- Document 01: "The walk starts with (entry, 0, 0, 0) and takes the work item pushed last: place at or past the end, 13; place that is the
 -- entry or a named target and was seen before, dropped if all three depths agree, else 11; rights ..; 12; 15 for ITER_DROP, 16 for
 -- POP_HANDLER; then edges, each target tested for 9, then 10, and the fall-through pushed last."
-use mathlib.Core.Bool.{Bool, true, false}
+use mathlib.Core.Bool.{true, false}
 use mathlib.Core.List.{List, [], _∷_}
 use mathlib.Core.Option.{Option, none, some}
 use Prim.Native.Nat.{ℕ, zero, suc, _+_, max}

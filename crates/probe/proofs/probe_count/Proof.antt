@@ -1,8 +1,6 @@
 -- `probe::probe_count` meets its contract: so few words hold no more ones than fit.
-use mathlib.Core.Path.{_∙_, sym}
 use native.Mathlib.Omega.{arith}
 use borrow.Author.Tests.{lt-ltb, le-ltb}
-use lib.ListN.{length}
 use Rattle.marks.proofs.Counts.{total-most}
 use Rattle.probe.specs.Same.{countOf}
 use Rattle.probe.proofs.probe_count.Statement.{statement}

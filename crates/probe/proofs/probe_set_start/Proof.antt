@@ -1,5 +1,4 @@
 -- `probe::probe_set_start` meets its contract: its test is that of the definition.
-use mathlib.Core.Path.{refl}
 use borrow.Author.Needs.{needs}
 use borrow.Author.Tests.{le-leb, lt-leb}
 use Rattle.probe.proofs.probe_set_start.Statement.{statement}
