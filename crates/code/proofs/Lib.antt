@@ -4,3 +4,4 @@ pub mod Widths
 pub mod Little
 pub mod Once
 pub mod Layouts
+pub mod Among

@@ -11,7 +11,8 @@ use lib.ListN.{length, getD}
 use Rattle.code.specs.Width.{widthBy, widthOf}
 use Rattle.listing.specs.Listing.{ListedTold, instruction, atEnd, noWidth, endingAt, listedBy, startsBy, stopBy, starts, ending}
 use Rattle.listing.specs.Reading.{placeAfter, Reads, ends, goes-on}
-use Rattle.listing.proofs.Starts.{starts-on, starts-stop, stop-on, stop-stop, from-end}
+use Rattle.listing.proofs.Starts.{all-within, starts-on, starts-stop, stop-on, stop-stop}
+use Rattle.listing.proofs.WalkLaws.{from-end}
 
 -- an ending is no instruction
 no-instruction : (code : List ℕ) (at : ℕ) → 0 < endingAt code at .number
@@ -85,7 +86,7 @@ module _ (table : ℕ → ℕ) (code : List ℕ) where
   ends-read at p = subst₂ (Reads table code at) (none-left at p) (ends-here at p) (ends p)
 
   pub all-read : (at : ℕ) → Reads table code at (startsBy table code at) (endingAt code (stopBy table code at))
-  all-read = from-end table code AllRead stops goes
+  all-read = from-end (all-within table code) AllRead stops goes
     where
       stops : (at : ℕ) → widthBy table code at ≡ 0 → AllRead at
       stops at e = ends-read at (omega (arith, no-instruction code at, ap (λ (t : ListedTold). t .number) (listed-ending at e)))

@@ -1,5 +1,6 @@
 -- A walk goes on at an instruction and stops where there is none: all that its users need to know of how it is defined.
 use mathlib.Core.Path.{_≡_, refl, sym, ap, _∙_}
+use mathlib.Core.Logic.{_⊎_, inl, inr}
 use Prim.Native.Nat.{ℕ, zero, suc, _+_, _≤_, _<_}
 use native.Mathlib.Omega.{arith}
 use Rattle.listing.specs.Walk.{walkFor, walk}
@@ -43,3 +44,27 @@ module _ {A : Type 0} {width : ℕ → ℕ} (step : ℕ → A → A) (stop : ℕ
       go : (w : ℕ) → w ≡ 0 → _≡_ {A = A} (elim w [ zero ↦ stop at | suc v ↦ step at (walkFor width step stop end (at + suc v)) ]) (stop at)
       go zero e = refl
       go (suc w) e = absurd (omega arith)
+
+-- a number is 0 or more
+pub some-or-none : (n : ℕ) → (n ≡ 0) ⊎ (0 < n)
+some-or-none zero = inl refl
+some-or-none (suc n) = inr (omega arith)
+
+-- One induction over the instructions from an offset on: what holds where they stop, and before an instruction where it
+-- holds after it, holds everywhere.
+module _ {width : ℕ → ℕ} {end : ℕ} (W : Within width end) (P : ℕ → Type 0) (stops : (at : ℕ) → width at ≡ 0 → P at)
+    (goes : (at : ℕ) → 0 < width at → P (at + width at) → P at) where
+  down : (n at : ℕ) → end ≤ at + n → P at
+  down zero at h = go (some-or-none (width at))
+    where
+      go : (width at ≡ 0) ⊎ (0 < width at) → P at
+      go (inl e) = stops at e
+      go (inr p) = absurd (omega (arith, W .within at p))
+  down (suc n) at h = go (some-or-none (width at)) (λ p. down n (at + width at) (omega arith))
+    where
+      go : (width at ≡ 0) ⊎ (0 < width at) → (0 < width at → P (at + width at)) → P at
+      go (inl e) rest = stops at e
+      go (inr p) rest = goes at p (rest p)
+
+  pub from-end : (at : ℕ) → P at
+  from-end at = down end at (omega arith)

@@ -15,6 +15,7 @@ use Rattle.pools.specs.Pools.{Switch, Case, switchAt, casesOf, rangesOf}
 use Rattle.rules.specs.declared.Depths.{Depths}
 use Rattle.rules.specs.Depths.{Item}
 use Rattle.rules.specs.Effects.{pops, pushes}
+use Rattle.rules.specs.Lists.{sumOf}
 use Rattle.rules.specs.Script.{Script, Span, tagOf}
 
 -- the groups of tags that the rules speak of
@@ -85,18 +86,13 @@ module _ (S : Script) (p : ℕ) where
   unfoldable pub degree : ℕ
   degree = length targets + cond (falls (tagOf S p)) 1 0
 
--- a sum over places
-unfoldable pub total : (ℕ → ℕ) → List ℕ → ℕ
-total f [] = 0
-total f (p ∷ ps) = f p + total f ps
-
 -- the starts in a chunk, and T and E over them
 module _ (S : Script) (span : Span) where
   abbrev pub chunkStarts : List ℕ
   chunkStarts = startsBefore widthOf (S .code) (span .end) (span .entry)
 
   unfoldable pub T : ℕ
-  T = total (λ p. length (targets S p)) chunkStarts
+  T = sumOf (λ p. length (targets S p)) chunkStarts
 
   unfoldable pub E : ℕ
-  E = total (degree S) chunkStarts
+  E = sumOf (degree S) chunkStarts

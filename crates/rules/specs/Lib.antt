@@ -1,3 +1,4 @@
+pub mod Lists
 pub mod Depths
 pub mod Script
 pub mod Effects

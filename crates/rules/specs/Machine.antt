@@ -1,12 +1,12 @@
 -- The machine that the walk is about: a chunk, freed of bytes and tags. `R` is the type of refusals, of which the walk knows nothing.
--- Document 01, "Order of the tests": what its paragraph on a chunk says of one instruction is a field here, and what it says of the order in
--- which items are taken and tested is `turn` of Walk.
+-- Document 01, "Order of the tests": what its paragraph on a chunk says of one instruction is a field here, and what it says of the order
+-- in which items are taken and tested is `turn` of Walk.
 use mathlib.Core.Bool.{Bool}
 use mathlib.Core.List.{List, _∷_}
 use mathlib.Core.Option.{Option, none, some}
 use Prim.Native.Nat.{ℕ}
-use Rattle.rules.specs.declared.Depths.{Depths}
 use Rattle.rules.specs.Depths.{zeros, Item}
+use Rattle.rules.specs.declared.Depths.{Depths}
 
 -- What the rule of one instruction says at some depths. Either it denies, with a refusal: rights; 12; 15 and 16; 13 of a plain instruction
 -- whose successor is not before the end. Or it gives the operands just after the instruction, the depths that fall through to the next one,

@@ -1,7 +1,7 @@
 -- Paths from a chunk's entry, and the operand depths on them. Document 01, "What comes back": "the starts on some path from
 -- the entry; 1 + the edges out of those". Nothing here knows how a chunk is walked.
 use mathlib.Core.Bool.{cond}
-use mathlib.Core.List.{[], _∷_, List·Memᴰ}
+use mathlib.Core.List.{[], _∷_}
 use mathlib.Core.Path.{_≡_}
 use Prim.Native.Nat.{ℕ, _≤_}
 use lib.Dec.{eqb}
@@ -12,6 +12,7 @@ use Rattle.rules.specs.Depths.{Item, zeros}
 use Rattle.rules.specs.Edges.{after, edges}
 use Rattle.rules.specs.Effects.{needs}
 use Rattle.rules.specs.Rights.{required, lacking}
+use Rattle.rules.specs.Lists.{_∈_}
 use Rattle.rules.specs.Script.{Script, Span, InChunk, tagOf}
 
 -- how many iterators, and how many handlers, an instruction needs
@@ -34,7 +35,7 @@ module _ (S : Script) (span : Span) where
   pub data Path : Item → Type 0 where
     enters : Path (record { place = span .entry; depths = zeros })
     follows : {i e : Item} → Path i → InChunk S span (i .place) → Able S (i .place) (i .depths)
-        → List·Memᴰ e (edges S (i .place) (i .depths)) → Path e
+        → e ∈ edges S (i .place) (i .depths) → Path e
 
   -- an operand depth at an instruction on a path, or just after it
   pub data DepthOnPath : ℕ → Type 0 where

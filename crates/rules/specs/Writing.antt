@@ -2,7 +2,6 @@
 -- that the entry has zeros, each edge leads to an in-chunk start bearing precisely the depths the rule gives, each written
 -- instruction has the depths and rights it needs, and no operand depth at or just after one exceeds the declared height."
 -- Nothing here knows how a chunk is walked.
-use mathlib.Core.List.{List·Memᴰ}
 use mathlib.Core.Option.{Option, some}
 use mathlib.Core.Path.{_≡_}
 use Prim.Native.Nat.{ℕ, _≤_}
@@ -10,6 +9,7 @@ use Rattle.rules.specs.declared.Depths.{Depths}
 use Rattle.rules.specs.Depths.{Item, zeros}
 use Rattle.rules.specs.Edges.{after, edges}
 use Rattle.rules.specs.Paths.{Able}
+use Rattle.rules.specs.Lists.{_∈_}
 use Rattle.rules.specs.Script.{Script, Span, InChunk}
 
 -- the depths written beside a place, if any are, and the clauses of the demand in its order
@@ -17,7 +17,7 @@ pub record Writing (S : Script) (span : Span) : Type 0 where
   pub written : ℕ → Option Depths
   pub beside-starts : (p : ℕ) (d : Depths) → written p ≡ some d → InChunk S span p
   pub entry-zeros : written (span .entry) ≡ some zeros
-  pub edges-agree : (p : ℕ) (d : Depths) → written p ≡ some d → (e : Item) → List·Memᴰ e (edges S p d) → written (e .place) ≡ some (e .depths)
+  pub edges-agree : (p : ℕ) (d : Depths) → written p ≡ some d → (e : Item) → e ∈ edges S p d → written (e .place) ≡ some (e .depths)
   pub able : (p : ℕ) (d : Depths) → written p ≡ some d → Able S p d
   pub height-at : (p : ℕ) (d : Depths) → written p ≡ some d → d .operands ≤ span .declared
   pub height-after : (p : ℕ) (d : Depths) → written p ≡ some d → after S p d .operands ≤ span .declared
