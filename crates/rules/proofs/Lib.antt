@@ -21,3 +21,5 @@ pub mod Shapes
 pub mod Inside
 pub mod Says
 pub mod Keeps
+pub mod Ties
+pub mod Demand

@@ -1,6 +1,6 @@
 -- The rule of one instruction, case by case: it denies by the first test that fails, with that test's values; or the
 -- instruction has all that it needs, and control goes where its edges lead.
-use mathlib.Core.Bool.{Bool, true, false, _&&_, cond}
+use mathlib.Core.Bool.{Bool, true, false, not, _&&_, cond}
 use mathlib.Core.List.{List, [], _∷_, _++_, map, append-nil, Memᴰ·append-left, Memᴰ·append-right, List·Memᴰ·append-cases, List·Memᴰ·eq-of-singleton}
 use mathlib.Core.Logic.{_⊎_, inl, inr, _↔_}
 use mathlib.Core.Option.{Option, none, some}
@@ -9,11 +9,14 @@ use Prim.Native.Nat.{ℕ, _≤_, _<_}
 use native.Mathlib.Omega.{arith}
 use borrow.Author.Tests.{ltb-true, ltb-false, leb-true, leb-false}
 use lib.Dec.{ltb, leb}
+use Rattle.code.specs.Layout.{among}
+use Rattle.code.specs.Tags.{RETURN, THROW, JUMP, SWITCH}
+use Rattle.code.proofs.Among.{among-member, member-among}
 use Rattle.rules.specs.declared.Answer.{Answer}
 use Rattle.rules.specs.declared.Answer.the-variants.{MissingCaps, Underflow, FallsOffTheEnd, IteratorUnderflow, HandlerUnderflow}
 use Rattle.rules.specs.declared.Depths.{Depths}
 use Rattle.rules.specs.Depths.{Item}
-use Rattle.rules.specs.Edges.{falls, plain, targets, after, jumped, next, edges}
+use Rattle.rules.specs.Edges.{jumping, falls, plain, targets, after, jumped, next, edges}
 use Rattle.rules.specs.Effects.{needs}
 use Rattle.rules.specs.Lists.{_∈_, here, there}
 use Rattle.rules.specs.Machine.{Ruling, denies, gives, fallTo}
@@ -21,7 +24,7 @@ use Rattle.rules.specs.Paths.{iteratorsNeeded, handlersNeeded, Able}
 use Rattle.rules.specs.Rights.{required, lacking}
 use Rattle.rules.specs.Rule.{rule}
 use Rattle.rules.specs.Script.{Script, Span, tagOf}
-use Rattle.rules.proofs.Lists.{∈-cases, zero≢one}
+use Rattle.rules.proofs.Lists.{∈-cases, ∉-nil, zero≢one}
 
 module _ (S : Script) (span : Span) (p : ℕ) (d : Depths) where
   -- what it needs and lacks, and the operands that it needs
@@ -118,3 +121,26 @@ module _ (S : Script) (span : Span) (p : ℕ) (d : Depths) where
           go (inl q) = Memᴰ·append-right jumps (here q)
           go (inr k) = Memᴰ·append-left (through ∷ []) k
       back false m = rw append-nil m
+
+  -- where control falls through, the fall-through is an edge
+  pub falls-edge : falls (tagOf S p) ≡ true → record { place = next S p; depths = after S p d } ∈ edges S p d
+  unfolding fallTo
+  falls-edge e = edges-given _ .1 (rw e (here refl))
+
+-- a plain instruction falls through
+pub plain-falls : (tag : ℕ) → plain tag ≡ true → falls tag ≡ true
+unfolding plain falls
+plain-falls tag q = go (among tag (RETURN ∷ THROW ∷ JUMP ∷ SWITCH ∷ [])) refl
+  where
+    larger : tag ∈ (RETURN ∷ THROW ∷ JUMP ∷ SWITCH ∷ []) → tag ∈ (RETURN ∷ THROW ∷ SWITCH ∷ jumping)
+    larger (here e) = here e
+    larger (there (here e)) = there (here e)
+    larger (there (there (here e))) = there (there (there (here e)))
+    larger (there (there (there (here e)))) = there (there (here e))
+    larger (there (there (there (there m)))) = absurd (∉-nil m)
+
+    go : (b : Bool) → among tag (RETURN ∷ THROW ∷ JUMP ∷ SWITCH ∷ []) ≡ b → not b ≡ true
+    go false e = refl
+    go true e =
+        let all = member-among tag (RETURN ∷ THROW ∷ SWITCH ∷ jumping) (larger (among-member tag (RETURN ∷ THROW ∷ JUMP ∷ SWITCH ∷ []) e)) in
+        absurd (zero≢one (cc (ap not all)))

@@ -6,7 +6,9 @@ pub mod Rights
 pub mod Edges
 pub mod Paths
 pub mod Writing
+pub mod Measures
 pub mod Answer
+pub mod Refusals
 pub mod Machine
 pub mod Walk
 pub mod Rule
