@@ -60,9 +60,17 @@ tag-byte tag h = go (leb 256 tag) refl
   where
     none : 256 ≤ tag → widthOf tag ≡ 0
     none l =
-        rw (ne-eqb tag 0x00 (λ e. omega arith), lt-leb tag 0x14 (omega arith), lt-leb tag 0x1a (omega arith), lt-leb tag 0x33 (omega arith),
-        lt-leb tag 0x37 (omega arith), lt-leb tag 0x41 (omega arith), lt-leb tag 0x44 (omega arith), lt-leb tag 0x47 (omega arith),
-        ne-eqb tag 0x4f (λ e. omega arith))
+        rw (
+          ne-eqb tag 0x00 (λ e. omega arith),
+          lt-leb tag 0x14 (omega arith),
+          lt-leb tag 0x1a (omega arith),
+          lt-leb tag 0x33 (omega arith),
+          lt-leb tag 0x37 (omega arith),
+          lt-leb tag 0x41 (omega arith),
+          lt-leb tag 0x44 (omega arith),
+          lt-leb tag 0x47 (omega arith),
+          ne-eqb tag 0x4f (λ e. omega arith),
+        )
 
     go : (b : Bool) → leb 256 tag ≡ b → tag < 256
     go true e = absurd (omega (arith, none (leb-true 256 tag e)))

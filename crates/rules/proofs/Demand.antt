@@ -4,25 +4,27 @@
 use mathlib.Core.Bool.{Bool, true, false, cond}
 use mathlib.Core.List.{List, []}
 use mathlib.Core.Logic.{_⊎_, inl, inr, _↔_}
-use mathlib.Core.Option.{Option, none, some}
-use mathlib.Core.Path.{_≡_, refl, sym, ap, _∙_}
-use Prim.Native.Nat.{ℕ, _+_, _≤_, _<_}
+use mathlib.Core.Option.{Option}
+use mathlib.Core.Path.{_≡_, refl, ap, _∙_}
+use Prim.Native.Nat.{ℕ, _+_, _*_, _≤_, _<_}
 use native.Mathlib.Omega.{arith}
 use borrow.Author.Tests.{ltb-true, ltb-false, le-ltb}
 use lib.Dec.{ltb}
+use lib.ListN.{length}
 use Rattle.rules.specs.declared.Answer.{Answer}
-use Rattle.rules.specs.declared.Answer.the-variants.{StackExceedsDeclared, FallsOffTheEnd}
+use Rattle.rules.specs.declared.Answer.the-variants.{StackExceedsDeclared}
 use Rattle.rules.specs.declared.Depths.{Depths}
-use Rattle.rules.specs.Chunk.{Judged, passes, fails, measured, walked, BeforeWalk}
-use Rattle.rules.specs.Edges.{E, degree, chunkStarts}
+use Rattle.rules.specs.Chunk.{Judged, passes, fails, measured, walked, judgeChunk, BeforeWalk}
+use Rattle.rules.specs.Depths.{Item}
+use Rattle.rules.specs.Edges.{T, E, degree, chunkStarts}
 use Rattle.rules.specs.Measures.{Measures}
 use Rattle.rules.specs.Paths.{DepthOnPath, at, just-after}
 use Rattle.rules.specs.Refusals.{Real}
-use Rattle.rules.specs.Rule.{machine}
+use Rattle.rules.specs.Rule.{rule, judge, machine}
 use Rattle.rules.specs.Script.{Script, Span}
 use Rattle.rules.specs.Walk.{Book, Run, accepted, refused, unfinished, Log, log, walk}
 use Rattle.rules.specs.Writing.{Writing}
-use Rattle.rules.proofs.Ends.{ends}
+use Rattle.rules.proofs.Ends.{Bounded, ends, unfinished-bounded}
 use Rattle.rules.proofs.Exactly.{Accepts, exactly}
 use Rattle.rules.proofs.Keeps.{keeps-laws}
 use Rattle.rules.proofs.Laws.{Laws}
@@ -40,12 +42,35 @@ pub record Accepted (S : Script) (span : Span) : Type 0 where
   pub taken : ℕ
   pub so : walked S span ≡ passes height reached taken
 
-module _ (S : Script) (span : Span) (B : BeforeWalk S span) where
+module _ (S : Script) (span : Span) {records work : ℕ} (B : BeforeWalk S span records work) where
   laws : Laws (machine S span) (degree S) (chunkStarts S span)
   laws = keeps-laws S span B
 
   units : ℕ
   units = 1 + E S span
+
+  -- Theorem 1. The walk ends: it takes 1 + E items at most, and at every moment what waits fits the room for it, and no depth is
+  -- above the number of instructions entered.
+  pub walk-ends : {w : List Item} {b : Book Log} → ¬ (walk (machine S span) log (1 + E S span) [] ≡ unfinished w b)
+  unfolding E
+  walk-ends = ends (machine S span) laws (1 + E S span) (omega arith)
+
+  pub walk-bounded : (n : ℕ) {w : List Item} {b : Book Log} → walk (machine S span) log n [] ≡ unfinished w b
+      → Bounded (E S span) (length (chunkStarts S span)) w b
+  unfolding E
+  walk-bounded n e = unfinished-bounded (machine S span) laws n e
+
+  -- so after the checks a chunk is judged by its walk
+  pub judged-walks : judgeChunk S span records work ≡ walked S span
+  unfolding judgeChunk
+  judged-walks =
+      rw (
+        le-ltb (span .end) (span .entry) (B .in-order),
+        le-ltb (length (S .code)) (span .end) (B .in-code),
+        B .aligned,
+        le-ltb records (4 * (1 + T S span)) (B .records-room),
+        le-ltb work (4 * (1 + E S span)) (B .work-room),
+      )
 
   -- what a judged walk tells of the run: it passes exactly if the run accepts within the declared height, with its numbers
   record Ran (height reached taken : ℕ) : Type 0 where
@@ -95,8 +120,10 @@ module _ (S : Script) (span : Span) (B : BeforeWalk S span) where
   ran-measures b ran = record {
     places = m .places;
     no-repeats = m .no-repeats;
-    on-paths = λ p. (λ k. let o = m .on-path p k in record { depths = o .0; path = path-of S span (o .1); start = inside S span (m .inside p k) },
-    λ o. m .all _ (reached-of S span W (o .path)));
+    on-paths = λ p. (
+      λ k. let o = m .on-path p k in record { depths = o .0; path = path-of S span (o .1); start = inside S span (m .inside p k) },
+      λ o. m .all _ (reached-of S span W (o .path)),
+    );
     counted = m .counted;
     edges-out = m .summed;
     attained = attained (m .attained);
@@ -153,3 +180,52 @@ module _ (S : Script) (span : Span) (B : BeforeWalk S span) where
           by-height false p e = absurd (zero≢one (cc))
       go (refused x u) q e = let same : x ≡ a = cc in inl (rw same at (real-of S span (real (machine S span) laws (1 + E S span) q)))
       go (unfinished w b) q e = absurd (ends (machine S span) laws (1 + E S span) (omega arith) q)
+
+-- Theorem 8. The height is the least that can be declared: with the same entry and end, the chunk is accepted under just those
+-- declared heights that are no less.
+abbrev pub redeclared : Span → ℕ → Span
+redeclared span declared = record { entry = span .entry; end = span .end; declared = declared }
+
+module _ (S : Script) (span : Span) where
+  same-walk : (declared : ℕ)
+      → walk (machine S (redeclared span declared)) log (1 + E S (redeclared span declared)) [] ≡ walk (machine S span) log (1 + E S span) []
+  unfolding rule judge E
+  same-walk declared = refl
+
+  still : {records work : ℕ} (declared : ℕ) → BeforeWalk S span records work → BeforeWalk S (redeclared span declared) records work
+  unfolding T E
+  still declared B = record {
+    decoded = B .decoded;
+    chain-there = B .chain-there;
+    switch-there = B .switch-there;
+    steps-within = B .steps-within;
+    cases-within = B .cases-within;
+    ranges-within = B .ranges-within;
+    in-order = B .in-order;
+    in-code = B .in-code;
+    aligned = B .aligned;
+    records-room = B .records-room;
+    work-room = B .work-room;
+  }
+
+  pub least-height : {records work : ℕ} → BeforeWalk S span records work → {h r t : ℕ} → walked S span ≡ passes h r t → (declared : ℕ)
+      → Accepted S (redeclared span declared) ↔ (h ≤ declared)
+  unfolding units
+  least-height B {h} {r} {t} e declared = (to, back)
+    where
+      first : Ran S span B h r t
+      first = ran-so S span B e
+
+      to : Accepted S (redeclared span declared) → h ≤ declared
+      to other =
+          let then = ran-so S (redeclared span declared) (still declared B) (other .so) in
+          let same : then .book ≡ first .book = cc (then .ran, same-walk declared, first .ran) in
+          omega (arith, then .low, first .numbers .0, ap (λ (b : Book Log). b .height) same)
+
+      back : h ≤ declared → Accepted S (redeclared span declared)
+      back low = record {
+        height = _;
+        reached = _;
+        taken = _;
+        so = passes-so S (redeclared span declared) (still declared B) (first .book) (same-walk declared ∙ first .ran) (omega (arith, first .numbers .0));
+      }

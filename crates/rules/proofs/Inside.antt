@@ -1,19 +1,18 @@
 -- The machine of a chunk that passed the checks before its walk: an instruction of the machine is an in-chunk start, and the
 -- places go from start to start.
-use mathlib.Core.Bool.{Bool, true, false, not, _&&_, _||_, cond}
-use mathlib.Core.List.{List, []}
-use mathlib.Core.Logic.{_⊎_, inl, inr, _↔_}
+use mathlib.Core.Bool.{Bool, true, false, _&&_, _||_, cond}
+use mathlib.Core.Logic.{_↔_}
 use mathlib.Core.Option.{Option, none, some}
-use mathlib.Core.Path.{_≡_, refl, sym, ap, _∙_}
-use Prim.Native.Nat.{ℕ, _+_, _≤_, _<_}
+use mathlib.Core.Path.{_≡_, refl}
+use Prim.Native.Nat.{ℕ, _≤_, _<_}
 use native.Mathlib.Omega.{arith}
-use borrow.Author.Tests.{leb-true, leb-false, ltb-true, ltb-false, le-leb, lt-leb, lt-ltb, le-ltb, eqb-true}
+use borrow.Author.Tests.{leb-true, leb-false, ltb-false, le-leb, lt-leb, le-ltb, eqb-true}
 use lib.Dec.{leb, ltb, eqb}
 use lib.ListN.{length}
 use Rattle.code.specs.Layout.{among}
-use Rattle.code.specs.Width.{widthOf, widthAt}
+use Rattle.code.specs.Width.{widthOf}
 use Rattle.code.proofs.Among.{among-member, member-among}
-use Rattle.listing.specs.Listing.{Start, starts, stopBy}
+use Rattle.listing.specs.Listing.{starts}
 use Rattle.listing.proofs.Starts.{listed-start, start-listed, start-wide, start-apart, start-next}
 use Rattle.listing.proofs.Before.{start-before}
 use Rattle.rules.specs.declared.Answer.{Answer}
@@ -21,7 +20,6 @@ use Rattle.rules.specs.declared.Answer.the-variants.{JumpOutOfRange, Jum
 use Rattle.rules.specs.Chunk.{BeforeWalk}
 use Rattle.rules.specs.Edges.{next, chunkStarts}
 use Rattle.rules.specs.Lists.{_∈_}
-use Rattle.rules.specs.Machine.{Machine}
 use Rattle.rules.specs.Rule.{machine, judge}
 use Rattle.rules.specs.Script.{Script, Span}
 use Rattle.rules.specs.Script as script
@@ -60,10 +58,13 @@ module _ (S : Script) (span : Span) where
       back : InChunk (machine S span) t → judge S span p t ≡ none
       back c =
           let i = inside c in
-          rw (le-ltb t (span .entry) (i .from-entry), lt-leb (span .end) t (i .before-end),
-          member-among t (starts (S .code)) (start-listed widthOf (S .code) t (i .start)))
+          rw (
+            le-ltb t (span .entry) (i .from-entry),
+            lt-leb (span .end) t (i .before-end),
+            member-among t (starts (S .code)) (start-listed widthOf (S .code) t (i .start)),
+          )
 
-  module _ (B : BeforeWalk S span) where
+  module _ {records work : ℕ} (B : BeforeWalk S span records work) where
     pub entry-starts : span .entry < span .end → InChunk (machine S span) (span .entry)
     entry-starts h =
         record { below = h; starts = rw (le-leb (span .entry) (span .entry) (omega arith)) (go (among (span .entry) (starts (S .code))) refl (eqb (span .entry) (length (S .code))) refl (B .aligned)) }

@@ -1,10 +1,9 @@
 -- Theorem 5. Any code, span and pools that passed the checks before a walk make a machine that keeps the laws which the other
 -- theorems ask for.
-use mathlib.Core.Bool.{Bool, true, false, _&&_, cond}
-use mathlib.Core.List.{List, [], _∷_, _++_, map, Memᴰ·append-left, Memᴰ·append-right}
+use mathlib.Core.Bool.{Bool, true, false, cond}
+use mathlib.Core.List.{List, _∷_, Memᴰ·append-left, Memᴰ·append-right}
 use mathlib.Core.Logic.{_⊎_, inl, inr}
-use mathlib.Core.Option.{Option, none, some}
-use mathlib.Core.Path.{_≡_, refl, sym, ap, _∙_}
+use mathlib.Core.Path.{_≡_, refl}
 use Prim.Native.Nat.{ℕ, _+_, _-_, _≤_, _<_}
 use native.Mathlib.Omega.{arith}
 use lib.Dec.{eqb}
@@ -18,15 +17,15 @@ use Rattle.rules.specs.declared.Answer.{Answer}
 use Rattle.rules.specs.declared.Depths.{Depths}
 use Rattle.rules.specs.Chunk.{BeforeWalk}
 use Rattle.rules.specs.Depths.{Item}
-use Rattle.rules.specs.Edges.{iterNexts, pushHandlers, falls, targets, afterOf, jumpedOf, after, jumped, next, degree, chunkStarts}
+use Rattle.rules.specs.Edges.{iterNexts, pushHandlers, falls, targets, afterOf, jumpedOf, after, next, degree, chunkStarts}
 use Rattle.rules.specs.Effects.{pops, pushes}
 use Rattle.rules.specs.Lists.{_∈_, here, there}
-use Rattle.rules.specs.Machine.{Ruling, denies, gives, Machine, fallTo}
+use Rattle.rules.specs.Machine.{Ruling, fallTo}
 use Rattle.rules.specs.Rule.{allTargets, rule, machine}
 use Rattle.rules.specs.Script.{Script, Span, tagOf}
 use Rattle.rules.proofs.Inside.{inside, judged, entry-starts, next-above, next-least, next-starts, listed}
 use Rattle.rules.proofs.Laws.{InChunk, Given, Near, Carried, Fair, Laws}
-use Rattle.rules.proofs.Lists.{∈-cases, ∉-nil, map-∈}
+use Rattle.rules.proofs.Lists.{∈-cases, map-∈}
 use Rattle.rules.proofs.Says.{jumpTo, jumps, fall, Says, no-rights, no-operands, no-iterator, no-handler, no-next, goes, says}
 use Rattle.rules.proofs.Shapes.{pushes-one, pushes-none}
 
@@ -63,7 +62,7 @@ near-jumped tag d a h = go (among tag iterNexts) (among tag pushHandlers)
 
 -- ---- what the rule gives at an in-chunk start
 
-module _ (S : Script) (span : Span) (B : BeforeWalk S span) (p : ℕ) (d : Depths) (c : InChunk (machine S span) p) where
+module _ (S : Script) (span : Span) {records work : ℕ} (B : BeforeWalk S span records work) (p : ℕ) (d : Depths) (c : InChunk (machine S span) p) where
   wide : 0 < widthAt (S .code) p
   wide = start-wide widthOf (S .code) (inside S span c .start)
 
@@ -122,7 +121,7 @@ module _ (S : Script) (span : Span) (B : BeforeWalk S span) (p : ℕ) (d : Depth
 
 -- ---- the laws
 
-pub keeps-laws : (S : Script) (span : Span) → BeforeWalk S span → Laws (machine S span) (degree S) (chunkStarts S span)
+pub keeps-laws : (S : Script) (span : Span) {records work : ℕ} → BeforeWalk S span records work → Laws (machine S span) (degree S) (chunkStarts S span)
 keeps-laws S span B = record {
   entry-named = member-among (span .entry) (span .entry ∷ allTargets S (chunkStarts S span)) (here refl);
   entry-starts = λ h. entry-starts S span B h .starts;

@@ -23,3 +23,4 @@ pub mod Says
 pub mod Keeps
 pub mod Ties
 pub mod Demand
+pub mod Bench

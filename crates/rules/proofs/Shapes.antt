@@ -1,6 +1,6 @@
 -- What holds of every tag, by one computed test each over the 256 of them: an instruction pops no more than it needs and
 -- pushes one at most, and one after which control does not go on to the next pushes nothing.
-use mathlib.Core.Bool.{Bool, true, false, not, _&&_, _||_}
+use mathlib.Core.Bool.{Bool, true, false, _&&_, _||_}
 use mathlib.Core.List.{List}
 use mathlib.Core.Path.{_≡_}
 use Prim.Native.Nat.{ℕ, _+_, _*_, _≤_, _<_}
@@ -45,8 +45,12 @@ smaller a b t n k =
     let f = leb (a .fixed) (b .fixed) in
     let g = leb (a .perN) (b .perN) in
     let h = leb (a .perK) (b .perK) in
-    omega (arith, leb→le (a .fixed) (b .fixed) (left f (g && h) t), mul-le-mul-right n (leb→le (a .perN) (b .perN) (left g h (right f (g && h) t))),
-    mul-le-mul-right k (leb→le (a .perK) (b .perK) (right g h (right f (g && h) t))))
+    omega (
+      arith,
+      leb→le (a .fixed) (b .fixed) (left f (g && h) t),
+      mul-le-mul-right n (leb→le (a .perN) (b .perN) (left g h (right f (g && h) t))),
+      mul-le-mul-right k (leb→le (a .perK) (b .perK) (right g h (right f (g && h) t))),
+    )
 
 -- of the instruction at a place
 module _ (code chains : List ℕ) (p : ℕ) (wide : 0 < widthAt code p) where

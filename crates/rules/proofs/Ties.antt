@@ -1,11 +1,10 @@
 -- Paths and writings of a chunk are those of its machine: what the statements of specs/ say without knowing the walk, the
 -- theorems about the walk say of the machine.
 use mathlib.Core.Bool.{Bool, true, false, _||_, cond}
-use mathlib.Core.List.{List, []}
-use mathlib.Core.Logic.{_⊎_, inl, inr, _↔_}
+use mathlib.Core.Logic.{inl, inr, _↔_}
 use mathlib.Core.Option.{Option, none, some}
-use mathlib.Core.Path.{_≡_, refl, sym, ap, _∙_}
-use Prim.Native.Nat.{ℕ, _≤_, _<_}
+use mathlib.Core.Path.{_≡_, refl, _∙_}
+use Prim.Native.Nat.{ℕ, _<_}
 use native.Mathlib.Omega.{arith}
 use borrow.Author.Tests.{ltb-true, ltb-false, leb-true, leb-false}
 use lib.Dec.{ltb, leb}
@@ -17,10 +16,10 @@ use Rattle.listing.proofs.Starts.{start-listed}
 use Rattle.rules.specs.declared.Answer.{Answer}
 use Rattle.rules.specs.declared.Answer.the-variants.{MissingCaps, JumpOutOfRange, JumpIntoAnInstruction, Underflow, FallsOffTheEnd, IteratorUnderflow, HandlerUnderflow}
 use Rattle.rules.specs.declared.Depths.{Depths}
-use Rattle.rules.specs.Depths.{Item, zeros}
+use Rattle.rules.specs.Depths.{Item}
 use Rattle.rules.specs.Edges.{after, edges, falls, plain, targets, next}
 use Rattle.rules.specs.Lists.{_∈_}
-use Rattle.rules.specs.Machine.{Ruling, denies, gives, Machine, origin, fallTo}
+use Rattle.rules.specs.Machine.{Ruling, denies, gives, fallTo}
 use Rattle.rules.specs.Paths as paths
 use Rattle.rules.specs.Paths.{Able}
 use Rattle.rules.specs.Refusals as refusals
@@ -29,7 +28,7 @@ use Rattle.rules.specs.Rule.{rule, judge, machine}
 use Rattle.rules.specs.Script.{Script, Span, tagOf}
 use Rattle.rules.specs.Writing as writing
 use Rattle.rules.proofs.Inside.{inside, outside}
-use Rattle.rules.proofs.Laws.{InChunk, Passes}
+use Rattle.rules.proofs.Laws.{Passes}
 use Rattle.rules.proofs.Lists.{∉-nil, map-∈, zero≢one}
 use Rattle.rules.proofs.Paths as machine
 use Rattle.rules.proofs.Paths.{leads, Reached, begins, follows, Good, Writing}

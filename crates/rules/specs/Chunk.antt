@@ -45,9 +45,10 @@ module _ (S : Script) (span : Span) where
         (cond (ltb work (4 * (1 + E S span))) (fails (NoRoom (4 * (1 + E S span)) 4))
         walked)))
 
--- What the checks before a walk establish: every byte of the code belongs to an instruction; each chain and switch that an
--- instruction names is there, and its spans lie in their tables; the chunk passed 7 and 8.
-pub record BeforeWalk (S : Script) (span : Span) : Type 0 where
+-- What the checks before a walk establish, where so many words of records and of work are lent: every byte of the code belongs
+-- to an instruction; each chain and switch that an instruction names is there, and its spans lie in their tables; the chunk
+-- passed 7 and 8, and has its room.
+pub record BeforeWalk (S : Script) (span : Span) (records work : ℕ) : Type 0 where
   pub decoded : stopBy widthOf (S .code) 0 ≡ length (S .code)
   pub chain-there : (p : ℕ) → Start widthOf (S .code) p → tagOf S p ≡ CHAIN → indexAt (S .code) p < whole 7 (S .pools .chains)
   pub switch-there : (p : ℕ) → Start widthOf (S .code) p → tagOf S p ≡ SWITCH → indexAt (S .code) p < whole 5 (S .pools .switches)
@@ -60,3 +61,5 @@ pub record BeforeWalk (S : Script) (span : Span) : Type 0 where
   pub in-order : span .entry ≤ span .end
   pub in-code : span .end ≤ length (S .code)
   pub aligned : among (span .entry) (starts (S .code)) || eqb (span .entry) (length (S .code)) ≡ true
+  pub records-room : 4 * (1 + T S span) ≤ records
+  pub work-room : 4 * (1 + E S span) ≤ work

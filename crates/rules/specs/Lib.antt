@@ -13,3 +13,4 @@ pub mod Machine
 pub mod Walk
 pub mod Rule
 pub mod Chunk
+pub mod Bench
