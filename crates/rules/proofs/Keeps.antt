@@ -37,6 +37,11 @@ target-listed S (q ∷ ps) (there k) m = Memᴰ·append-right (targets S q) (tar
 
 -- ---- depths
 
+-- what holds of both holds of the one that a test picks
+either : {A : Type 0} (P : A → Type 0) (test : Bool) {x y : A} → P x → P y → P (cond test x y)
+either P true h k = h
+either P false h k = k
+
 -- no depth grows by more than one, neither after an instruction nor at its targets
 near-after : (tag pops pushes : ℕ) (d : Depths) → pushes ≤ 1 → Near d (afterOf tag pops pushes d)
 unfolding afterOf
@@ -53,12 +58,9 @@ near-after tag pops pushes d one = record {
 
 near-jumped : (tag : ℕ) (d a : Depths) → Near d a → Near d (jumpedOf tag d a)
 unfolding jumpedOf
-near-jumped tag d a h = go (among tag iterNexts) (among tag pushHandlers)
-  where
-    go : (iterates handles : Bool) → Near d (cond iterates (record { operands = d .operands; iterators = d .iterators - 1; handlers = d .handlers }) (cond handles (record { operands = d .operands; iterators = d .iterators; handlers = d .handlers + 1 }) a))
-    go true handles = record { operands = omega arith; iterators = omega arith; handlers = omega arith }
-    go false true = record { operands = omega arith; iterators = omega arith; handlers = omega arith }
-    go false false = h
+near-jumped tag d a h =
+    either (Near d) (among tag iterNexts) (record { operands = omega arith; iterators = omega arith; handlers = omega arith })
+    (either (Near d) (among tag pushHandlers) (record { operands = omega arith; iterators = omega arith; handlers = omega arith }) h)
 
 -- ---- what the rule gives at an in-chunk start
 
