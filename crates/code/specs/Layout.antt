@@ -3,12 +3,13 @@
 -- count n is the byte at 1 (width 2 and CALL_FN_PTR_ON_*), the byte at 3 (other calls), the u16 at 1 (MAKE_*)". A pool's
 -- number is that of kind 6: "constant 1, name, operator, op-assignment, chain, switch, site 7".
 use mathlib.Core.Bool.{Bool, false, _||_, cond}
-use mathlib.Core.List.{List, [], _∷_}
+use mathlib.Core.List.{List, [], _∷_, _++_}
 use Prim.Native.Nat.{ℕ, _+_}
 use lib.Dec.{eqb}
 use lib.ListN.{getD}
 use Rattle.code.specs.Numbers.{little}
-use Rattle.code.specs.Tags.{ROTATE, CURRY, CALL-FN-PTR, CALL-FN-PTR-CAPTURE, CALL-FN-PTR-METHOD, CALL-FN-PTR-ON-THIS, UNWIND-TO, STATEMENT, SHARE, SHARE-NAMED, LOAD-SHARED, LOAD-SHARED-NAMED, STORE-SHARED, ASSIGN-THIS-OP, MAKE-CLOSURE, LOAD-CONST, LOAD-LOCAL, LOAD-NAMED, STORE-LOCAL, STORE-CONST, DECLARE-LOCAL, DECLARE-CONST, DECLARE-GLOBAL-CONST, CHAIN, MAKE-ARRAY, MAKE-MAP, CHECK-ARRAY-SIZE, CHECK-MAP-SIZE, SWITCH, CUSTOM-SYNTAX, ASSIGN-NAMED, IMPORT, CALL, CALL-THIS-REF, CALL-FN-PTR-ON-LOCAL, CALL-FN-PTR-ON-NAMED, JUMP, JUMP-IF-TRUE, JUMP-IF-FALSE, SKIP-IF-NOT-UNIT, ITER-NEXT, PUSH-HANDLER, EXPORT-LOCAL, EXPORT-NAMED, ASSIGN-LOCAL, ASSIGN-NAMED-OP, CALL-OP, CALL-LOCAL-REF, CALL-NAMED-REF, ITER-NEXT-INDEXED, PUSH-HANDLER-VAR, ASSIGN-LOCAL-OP}
+use Rattle.code.specs.Tags.{ROTATE, CURRY, CALL-FN-PTR, CALL-FN-PTR-CAPTURE, CALL-FN-PTR-METHOD, CALL-FN-PTR-ON-THIS, UNWIND-TO, STATEMENT, SHARE, SHARE-NAMED, LOAD-SHARED, LOAD-SHARED-NAMED, ASSIGN-THIS-OP, MAKE-CLOSURE, LOAD-CONST, LOAD-LOCAL, LOAD-NAMED, CHAIN, MAKE-ARRAY, MAKE-MAP, SWITCH, CUSTOM-SYNTAX, ASSIGN-NAMED, IMPORT, CALL, CALL-THIS-REF, CALL-FN-PTR-ON-LOCAL, CALL-FN-PTR-ON-NAMED, JUMP, SKIP-IF-NOT-UNIT, ITER-NEXT, PUSH-HANDLER, EXPORT-LOCAL, EXPORT-NAMED, ASSIGN-LOCAL, ASSIGN-NAMED-OP, CALL-OP, CALL-LOCAL-REF, CALL-NAMED-REF, ITER-NEXT-INDEXED, PUSH-HANDLER-VAR, ASSIGN-LOCAL-OP}
+use Rattle.code.specs.Tags.{jumpIfs, stores, declares, checks}
 
 -- is a tag one of these?
 unfoldable pub among : ℕ → List ℕ → Bool
@@ -51,7 +52,7 @@ sites = 7
 
 unfoldable pub layout : ℕ → List Field
 layout tag =
-    cond (among tag (JUMP ∷ JUMP-IF-TRUE ∷ JUMP-IF-FALSE ∷ SKIP-IF-NOT-UNIT ∷ ITER-NEXT ∷ PUSH-HANDLER ∷ [])) (target ∷ [])
+    cond (among tag (JUMP ∷ SKIP-IF-NOT-UNIT ∷ ITER-NEXT ∷ PUSH-HANDLER ∷ jumpIfs)) (target ∷ [])
     (cond (among tag (ITER-NEXT-INDEXED ∷ PUSH-HANDLER-VAR ∷ [])) (target ∷ slot ∷ [])
     (cond (among tag (ROTATE ∷ CURRY ∷ CALL-FN-PTR ∷ CALL-FN-PTR-CAPTURE ∷ CALL-FN-PTR-METHOD ∷ CALL-FN-PTR-ON-THIS ∷ [])) (count8 ∷ [])
     (cond (eqb tag CALL-FN-PTR-ON-LOCAL) (count8 ∷ slot ∷ [])
@@ -62,7 +63,7 @@ layout tag =
     (cond (eqb tag CALL-OP) (index names ∷ count8 ∷ index operators ∷ [])
     (cond (among tag (MAKE-ARRAY ∷ MAKE-MAP ∷ [])) (count16 ∷ [])
     (cond (eqb tag LOAD-CONST) (index constants ∷ [])
-    (cond (among tag (DECLARE-LOCAL ∷ DECLARE-CONST ∷ DECLARE-GLOBAL-CONST ∷ LOAD-NAMED ∷ LOAD-SHARED-NAMED ∷ ASSIGN-NAMED ∷ SHARE-NAMED ∷ MAKE-CLOSURE ∷ IMPORT ∷ [])) (index names ∷ [])
+    (cond (among tag (LOAD-NAMED ∷ LOAD-SHARED-NAMED ∷ ASSIGN-NAMED ∷ SHARE-NAMED ∷ MAKE-CLOSURE ∷ IMPORT ∷ declares)) (index names ∷ [])
     (cond (among tag (ASSIGN-LOCAL ∷ EXPORT-LOCAL ∷ [])) (slot ∷ index names ∷ [])
     (cond (eqb tag EXPORT-NAMED) (index names ∷ index names ∷ [])
     (cond (eqb tag ASSIGN-NAMED-OP) (index names ∷ index opAssignments ∷ [])
@@ -71,7 +72,7 @@ layout tag =
     (cond (eqb tag CHAIN) (index chains ∷ [])
     (cond (eqb tag SWITCH) (index switches ∷ [])
     (cond (eqb tag CUSTOM-SYNTAX) (index sites ∷ [])
-    (cond (among tag (UNWIND-TO ∷ STATEMENT ∷ SHARE ∷ LOAD-SHARED ∷ STORE-SHARED ∷ LOAD-LOCAL ∷ STORE-LOCAL ∷ STORE-CONST ∷ CHECK-ARRAY-SIZE ∷ CHECK-MAP-SIZE ∷ [])) (slot ∷ [])
+    (cond (among tag (UNWIND-TO ∷ STATEMENT ∷ SHARE ∷ LOAD-SHARED ∷ LOAD-LOCAL ∷ stores ++ checks)) (slot ∷ [])
     []))))))))))))))))))))
 
 -- the number of the first count among fields that start at an offset of the code, 0 where there is none

@@ -1,5 +1,6 @@
--- The tags by name. Document 01, "Tags": "Numbers run from 0x01 in this order", and IMPORT 0x4f. A name of the document is
--- written here with `-` for `_`.
+-- The tags by name, and the groups that the document writes with a star. Document 01, "Tags": "Numbers run from 0x01 in this
+-- order", and IMPORT 0x4f. A name of the document is written here with `-` for `_`.
+use mathlib.Core.List.{List, [], _∷_}
 use Prim.Native.Nat.{ℕ}
 
 -- width 1
@@ -224,3 +225,46 @@ PUSH-HANDLER-VAR = 0x46
 
 abbrev pub ASSIGN-LOCAL-OP : ℕ
 ASSIGN-LOCAL-OP = 0x47
+
+-- ---- groups
+
+-- LOAD_*
+abbrev pub loads : List ℕ
+loads = LOAD-THIS ∷ LOAD-THIS-SHARED ∷ LOAD-SHARED ∷ LOAD-SHARED-NAMED ∷ LOAD-CONST ∷ LOAD-LOCAL ∷ LOAD-NAMED ∷ []
+
+-- STORE_*
+abbrev pub stores : List ℕ
+stores = STORE-SHARED ∷ STORE-LOCAL ∷ STORE-CONST ∷ []
+
+-- DECLARE_*
+abbrev pub declares : List ℕ
+declares = DECLARE-LOCAL ∷ DECLARE-CONST ∷ DECLARE-GLOBAL-CONST ∷ []
+
+-- ASSIGN_*
+abbrev pub assigns : List ℕ
+assigns = ASSIGN-THIS ∷ ASSIGN-THIS-OP ∷ ASSIGN-NAMED ∷ ASSIGN-LOCAL ∷ ASSIGN-NAMED-OP ∷ ASSIGN-LOCAL-OP ∷ []
+
+-- JUMP_IF_*
+abbrev pub jumpIfs : List ℕ
+jumpIfs = JUMP-IF-TRUE ∷ JUMP-IF-FALSE ∷ []
+
+-- CHECK_*
+abbrev pub checks : List ℕ
+checks = CHECK-ARRAY-SIZE ∷ CHECK-MAP-SIZE ∷ []
+
+-- CALL_*_REF
+abbrev pub callRefs : List ℕ
+callRefs = CALL-LOCAL-REF ∷ CALL-NAMED-REF ∷ CALL-THIS-REF ∷ []
+
+-- CALL_FN_PTR*
+abbrev pub callFnPtrs : List ℕ
+callFnPtrs =
+    CALL-FN-PTR ∷ CALL-FN-PTR-CAPTURE ∷ CALL-FN-PTR-METHOD ∷ CALL-FN-PTR-ON-THIS ∷ CALL-FN-PTR-ON-LOCAL ∷ CALL-FN-PTR-ON-NAMED ∷ []
+
+-- ITER_NEXT*
+abbrev pub iterNexts : List ℕ
+iterNexts = ITER-NEXT ∷ ITER-NEXT-INDEXED ∷ []
+
+-- PUSH_HANDLER*
+abbrev pub pushHandlers : List ℕ
+pushHandlers = PUSH-HANDLER ∷ PUSH-HANDLER-VAR ∷ []

@@ -9,7 +9,7 @@ use native.Mathlib.Omega.{arith}
 use lib.Dec.{eqb}
 use lib.ListN.{length, length-map}
 use Rattle.code.specs.Layout.{among}
-use Rattle.code.specs.Tags.{ITER-INIT, ITER-DROP, POP-HANDLER}
+use Rattle.code.specs.Tags.{ITER-INIT, ITER-DROP, POP-HANDLER, iterNexts, pushHandlers}
 use Rattle.code.specs.Width.{widthOf, widthAt}
 use Rattle.code.proofs.Among.{member-among}
 use Rattle.listing.proofs.Starts.{start-wide}
@@ -17,7 +17,7 @@ use Rattle.rules.specs.declared.Answer.{Answer}
 use Rattle.rules.specs.declared.Depths.{Depths}
 use Rattle.rules.specs.Chunk.{BeforeWalk}
 use Rattle.rules.specs.Depths.{Item}
-use Rattle.rules.specs.Edges.{iterNexts, pushHandlers, falls, targets, afterOf, jumpedOf, after, next, degree, chunkStarts}
+use Rattle.rules.specs.Edges.{falls, targets, afterOf, jumpedOf, after, next, degree, chunkStarts}
 use Rattle.rules.specs.Effects.{pops, pushes}
 use Rattle.rules.specs.Lists.{_∈_, here, there}
 use Rattle.rules.specs.Machine.{Ruling, fallTo}

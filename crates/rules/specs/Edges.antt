@@ -8,7 +8,7 @@ use Prim.Native.Nat.{ℕ, _+_, _-_}
 use lib.Dec.{eqb}
 use lib.ListN.{length}
 use Rattle.code.specs.Layout.{among, tagAt, indexAt, targetAt}
-use Rattle.code.specs.Tags.{RETURN, THROW, ITER-INIT, ITER-DROP, POP-HANDLER, SWITCH, JUMP, JUMP-IF-TRUE, JUMP-IF-FALSE, SKIP-IF-NOT-UNIT, ITER-NEXT, PUSH-HANDLER, ITER-NEXT-INDEXED, PUSH-HANDLER-VAR}
+use Rattle.code.specs.Tags.{RETURN, THROW, ITER-INIT, ITER-DROP, POP-HANDLER, SWITCH, JUMP, SKIP-IF-NOT-UNIT, jumpIfs, iterNexts, pushHandlers}
 use Rattle.code.specs.Width.{widthOf, widthAt}
 use Rattle.listing.specs.Listing.{startsBefore}
 use Rattle.pools.specs.Pools.{Switch, Case, switchAt, casesOf, rangesOf}
@@ -18,15 +18,9 @@ use Rattle.rules.specs.Effects.{pops, pushes}
 use Rattle.rules.specs.Lists.{sumOf}
 use Rattle.rules.specs.Script.{Script, Span, tagOf}
 
--- the groups of tags that the rules speak of
-abbrev pub iterNexts : List ℕ
-iterNexts = ITER-NEXT ∷ ITER-NEXT-INDEXED ∷ []
-
-abbrev pub pushHandlers : List ℕ
-pushHandlers = PUSH-HANDLER ∷ PUSH-HANDLER-VAR ∷ []
-
+-- the tags that name one target
 abbrev pub jumping : List ℕ
-jumping = JUMP ∷ JUMP-IF-TRUE ∷ JUMP-IF-FALSE ∷ SKIP-IF-NOT-UNIT ∷ ITER-NEXT ∷ ITER-NEXT-INDEXED ∷ PUSH-HANDLER ∷ PUSH-HANDLER-VAR ∷ []
+jumping = JUMP ∷ SKIP-IF-NOT-UNIT ∷ jumpIfs ++ iterNexts ++ pushHandlers
 
 -- control goes on to the next instruction after these tags
 unfoldable pub falls : ℕ → Bool

@@ -1,10 +1,11 @@
 -- What an instruction does to the operands. Document 01, "Tags": "Needs/pops/pushes".
 use mathlib.Core.Bool.{cond}
-use mathlib.Core.List.{List, [], _∷_}
+use mathlib.Core.List.{List, [], _∷_, _++_}
 use Prim.Native.Nat.{ℕ, _+_, _*_}
 use lib.Dec.{eqb}
 use Rattle.code.specs.Layout.{among, tagAt, countAt, indexAt}
-use Rattle.code.specs.Tags.{UNIT, FALSE, TRUE, POP, RETURN, THROW, ITER-INIT, INTERPOLATE-START, INTERPOLATE-APPEND, INTERPOLATE-END, IS-SHARED, MAKE-FN-PTR, LOAD-THIS, LOAD-THIS-SHARED, ASSIGN-THIS, ROTATE, CURRY, CALL-FN-PTR, CALL-FN-PTR-CAPTURE, CALL-FN-PTR-METHOD, CALL-FN-PTR-ON-THIS, LOAD-SHARED, LOAD-SHARED-NAMED, STORE-SHARED, ASSIGN-THIS-OP, MAKE-CLOSURE, LOAD-CONST, LOAD-LOCAL, LOAD-NAMED, STORE-LOCAL, STORE-CONST, DECLARE-LOCAL, DECLARE-CONST, DECLARE-GLOBAL-CONST, CHAIN, MAKE-ARRAY, MAKE-MAP, CHECK-ARRAY-SIZE, CHECK-MAP-SIZE, SWITCH, ASSIGN-NAMED, IMPORT, CALL, CALL-THIS-REF, CALL-FN-PTR-ON-LOCAL, CALL-FN-PTR-ON-NAMED, JUMP-IF-TRUE, JUMP-IF-FALSE, SKIP-IF-NOT-UNIT, ITER-NEXT, ASSIGN-LOCAL, ASSIGN-NAMED-OP, CALL-OP, CALL-LOCAL-REF, CALL-NAMED-REF, ITER-NEXT-INDEXED, ASSIGN-LOCAL-OP}
+use Rattle.code.specs.Tags.{UNIT, FALSE, TRUE, POP, RETURN, THROW, ITER-INIT, INTERPOLATE-START, INTERPOLATE-APPEND, INTERPOLATE-END, IS-SHARED, MAKE-FN-PTR, ROTATE, CURRY, MAKE-CLOSURE, CHAIN, MAKE-ARRAY, MAKE-MAP, SWITCH, IMPORT, CALL, SKIP-IF-NOT-UNIT, CALL-OP}
+use Rattle.code.specs.Tags.{loads, stores, declares, assigns, jumpIfs, checks, callRefs, callFnPtrs, iterNexts}
 use Rattle.pools.specs.Pools.{chainAt}
 
 -- an amount: so many, so many for each of the count n, and so many for each of the chain's operands k
@@ -38,17 +39,14 @@ acts needs pops pushes = record { needs = needs; pops = pops; pushes = pushes }
 
 unfoldable pub effect : ℕ → Effect
 effect tag =
-    cond (among tag (UNIT ∷ FALSE ∷ TRUE ∷ LOAD-THIS ∷ LOAD-THIS-SHARED ∷ LOAD-SHARED ∷ LOAD-SHARED-NAMED ∷ LOAD-CONST ∷ LOAD-LOCAL ∷ LOAD-NAMED ∷ MAKE-CLOSURE ∷ INTERPOLATE-START ∷ ITER-NEXT ∷ ITER-NEXT-INDEXED ∷ []))
-    (acts (just 0) (just 0) 1)
-    (cond (among tag (POP ∷ STORE-SHARED ∷ STORE-LOCAL ∷ STORE-CONST ∷ DECLARE-LOCAL ∷ DECLARE-CONST ∷ DECLARE-GLOBAL-CONST ∷ ASSIGN-THIS ∷ ASSIGN-THIS-OP ∷ ASSIGN-NAMED ∷ ASSIGN-LOCAL ∷ ASSIGN-NAMED-OP ∷ ASSIGN-LOCAL-OP ∷ IMPORT ∷ RETURN ∷ THROW ∷ SWITCH ∷ ITER-INIT ∷ JUMP-IF-TRUE ∷ JUMP-IF-FALSE ∷ []))
-    (acts (just 1) (just 1) 0)
+    cond (among tag (UNIT ∷ FALSE ∷ TRUE ∷ loads ++ MAKE-CLOSURE ∷ INTERPOLATE-START ∷ iterNexts)) (acts (just 0) (just 0) 1)
+    (cond (among tag (POP ∷ stores ++ declares ++ assigns ++ IMPORT ∷ RETURN ∷ THROW ∷ SWITCH ∷ ITER-INIT ∷ jumpIfs)) (acts (just 1) (just 1) 0)
     (cond (among tag (IS-SHARED ∷ MAKE-FN-PTR ∷ INTERPOLATE-END ∷ [])) (acts (just 1) (just 1) 1)
     (cond (eqb tag INTERPOLATE-APPEND) (acts (just 2) (just 1) 0)
-    (cond (among tag (SKIP-IF-NOT-UNIT ∷ CHECK-ARRAY-SIZE ∷ CHECK-MAP-SIZE ∷ [])) (acts (just 1) (just 0) 0)
+    (cond (among tag (SKIP-IF-NOT-UNIT ∷ checks)) (acts (just 1) (just 0) 0)
     (cond (eqb tag ROTATE) (acts n (just 0) 0)
-    (cond (among tag (CALL ∷ CALL-OP ∷ CALL-LOCAL-REF ∷ CALL-NAMED-REF ∷ CALL-THIS-REF ∷ MAKE-ARRAY ∷ [])) (acts n n 1)
-    (cond (among tag (CURRY ∷ CALL-FN-PTR ∷ CALL-FN-PTR-CAPTURE ∷ CALL-FN-PTR-METHOD ∷ CALL-FN-PTR-ON-THIS ∷ CALL-FN-PTR-ON-LOCAL ∷ CALL-FN-PTR-ON-NAMED ∷ []))
-    (acts n+1 n+1 1)
+    (cond (among tag (CALL ∷ CALL-OP ∷ callRefs ++ MAKE-ARRAY ∷ [])) (acts n n 1)
+    (cond (among tag (CURRY ∷ callFnPtrs)) (acts n+1 n+1 1)
     (cond (eqb tag MAKE-MAP) (acts 2n 2n 1)
     (cond (eqb tag CHAIN) (acts k k 1) (acts (just 0) (just 0) 0))))))))))
 

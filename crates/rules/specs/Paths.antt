@@ -6,7 +6,7 @@ use mathlib.Core.Path.{_≡_}
 use Prim.Native.Nat.{ℕ, _≤_}
 use lib.Dec.{eqb}
 use Rattle.code.specs.Layout.{among}
-use Rattle.code.specs.Tags.{ITER-DROP, POP-HANDLER, ITER-NEXT, ITER-NEXT-INDEXED}
+use Rattle.code.specs.Tags.{ITER-DROP, POP-HANDLER, iterNexts}
 use Rattle.rules.specs.declared.Depths.{Depths}
 use Rattle.rules.specs.Depths.{Item, zeros}
 use Rattle.rules.specs.Edges.{after, edges}
@@ -17,7 +17,7 @@ use Rattle.rules.specs.Script.{Script, Span, InChunk, tagOf}
 
 -- how many iterators, and how many handlers, an instruction needs
 unfoldable pub iteratorsNeeded : ℕ → ℕ
-iteratorsNeeded tag = cond (among tag (ITER-DROP ∷ ITER-NEXT ∷ ITER-NEXT-INDEXED ∷ [])) 1 0
+iteratorsNeeded tag = cond (among tag (ITER-DROP ∷ iterNexts)) 1 0
 
 unfoldable pub handlersNeeded : ℕ → ℕ
 handlersNeeded tag = cond (eqb tag POP-HANDLER) 1 0

@@ -7,7 +7,7 @@ use lib.Bits.{bitAnd, bitOr}
 use lib.Dec.{eqb}
 use lib.ListN.{getD}
 use Rattle.code.specs.Layout.{among, tagAt, indexAt}
-use Rattle.code.specs.Tags.{IS-SHARED, MAKE-FN-PTR, LOAD-THIS, LOAD-THIS-SHARED, REQUIRE-THIS, ASSIGN-THIS, CURRY, CALL-FN-PTR, CALL-FN-PTR-CAPTURE, CALL-FN-PTR-METHOD, CALL-FN-PTR-ON-THIS, SHARE, SHARE-NAMED, ASSIGN-THIS-OP, MAKE-CLOSURE, LOAD-NAMED, CHAIN, MAKE-ARRAY, MAKE-MAP, CUSTOM-SYNTAX, IMPORT, CALL, CALL-THIS-REF, CALL-FN-PTR-ON-LOCAL, CALL-FN-PTR-ON-NAMED, EXPORT-LOCAL, EXPORT-NAMED, CALL-OP, CALL-LOCAL-REF, CALL-NAMED-REF}
+use Rattle.code.specs.Tags.{IS-SHARED, MAKE-FN-PTR, LOAD-THIS, LOAD-THIS-SHARED, REQUIRE-THIS, ASSIGN-THIS, CURRY, SHARE, SHARE-NAMED, ASSIGN-THIS-OP, MAKE-CLOSURE, LOAD-NAMED, CHAIN, MAKE-ARRAY, MAKE-MAP, CUSTOM-SYNTAX, IMPORT, CALL, CALL-THIS-REF, EXPORT-LOCAL, EXPORT-NAMED, CALL-OP, CALL-LOCAL-REF, CALL-NAMED-REF, callFnPtrs}
 use Rattle.pools.specs.Pools.{Chain, Step, chainAt, stepsOf}
 
 -- the bits that an instruction can ask for
@@ -68,7 +68,7 @@ ofChain steps c = bitOr (cond (eqb (c .root) 2) THIS 0) (ofSteps (stepsOf steps 
 module _ (code names chains steps : List ℕ) (p : ℕ) where
   unfoldable pub required : ℕ
   required =
-      cond (among tag (MAKE-FN-PTR ∷ MAKE-CLOSURE ∷ CALL-FN-PTR ∷ CALL-FN-PTR-CAPTURE ∷ CALL-FN-PTR-METHOD ∷ CALL-FN-PTR-ON-THIS ∷ CALL-FN-PTR-ON-LOCAL ∷ CALL-FN-PTR-ON-NAMED ∷ [])) FN-PTR
+      cond (among tag (MAKE-FN-PTR ∷ MAKE-CLOSURE ∷ callFnPtrs)) FN-PTR
       (cond (eqb tag CURRY) (bitOr FN-PTR CURRYING)
       (cond (among tag (SHARE ∷ SHARE-NAMED ∷ IS-SHARED ∷ [])) SHARING
       (cond (among tag (REQUIRE-THIS ∷ LOAD-THIS ∷ LOAD-THIS-SHARED ∷ ASSIGN-THIS ∷ ASSIGN-THIS-OP ∷ [])) THIS

@@ -1,0 +1,3 @@
+pub mod Input
+pub mod Before
+pub mod Memory
