@@ -23,11 +23,11 @@ use Rattle.rules.specs.Lists.{_∈_, here, there}
 use Rattle.rules.specs.Machine.{Ruling, fallTo}
 use Rattle.rules.specs.Rule.{allTargets, rule, machine}
 use Rattle.rules.specs.Script.{Script, Span, tagOf}
+use Rattle.rules.proofs.Amounts.{pushes-at-most-one, pushes-none}
 use Rattle.rules.proofs.Inside.{inside, judged, entry-starts, next-above, next-least, next-starts, listed}
 use Rattle.rules.proofs.Laws.{InChunk, Given, Near, Carried, Fair, Laws}
 use Rattle.rules.proofs.Lists.{∈-cases, map-∈}
 use Rattle.rules.proofs.Says.{jumpTo, jumps, fall, Says, no-rights, no-operands, no-iterator, no-handler, no-next, goes, says}
-use Rattle.rules.proofs.Shapes.{pushes-one, pushes-none}
 
 -- the targets of a listed place are among all of them
 target-listed : (S : Script) (ps : List ℕ) {p t : ℕ} → p ∈ ps → t ∈ targets S p → t ∈ allTargets S ps
@@ -71,7 +71,7 @@ module _ (S : Script) (span : Span) {records work : ℕ} (B : BeforeWalk S span 
   near-here : Near d (after S p d)
   near-here =
       near-after (tagOf S p) (pops (S .code) (S .pools .chains) p) (pushes (S .code) (S .pools .chains) p) d
-      (pushes-one (S .code) (S .pools .chains) p wide)
+      (pushes-at-most-one (S .code) (S .pools .chains) p wide)
 
   jump-named : (j : Item) → j ∈ jumps S span p d → among (j .place) (span .entry ∷ allTargets S (chunkStarts S span)) ≡ true
   jump-named j m =

@@ -14,3 +14,7 @@ pub mod Walk
 pub mod Rule
 pub mod Chunk
 pub mod Bench
+pub mod Shapes
+pub mod There
+pub mod Acts
+pub mod Asks

@@ -1,0 +1,62 @@
+-- Document 01's list of outgoing edges: "none for RETURN and THROW, 1 for JUMP, 2 for the branches, ITER_NEXT* and
+-- PUSH_HANDLER*, cases + ranges + 1 for SWITCH, else 1". The degree of the definition is that of the list.
+use mathlib.Core.Bool.{Bool, true, false, cond}
+use mathlib.Core.List.{[], _∷_}
+use mathlib.Core.Path.{_≡_, refl}
+use Prim.Native.Nat.{ℕ, _+_, _<_}
+use native.Mathlib.Omega.{arith}
+use borrow.Author.Tests.{eqb-true}
+use lib.Dec.{eqb, eqb→eq}
+use lib.ListN.{length, replicate}
+use Rattle.code.proofs.Table.{each}
+use Rattle.code.specs.Layout.{among, indexAt, targetAt}
+use Rattle.code.specs.Tags.{RETURN, THROW, SWITCH, JUMP, JUMP-IF-TRUE, JUMP-IF-FALSE, SKIP-IF-NOT-UNIT, ITER-NEXT, PUSH-HANDLER, ITER-NEXT-INDEXED, PUSH-HANDLER-VAR}
+use Rattle.code.specs.Width.{widthAt}
+use Rattle.pools.specs.Pools.{switchAt}
+use Rattle.rules.specs.Edges.{jumping, falls, armsOf, targetsOf, targets, degree}
+use Rattle.rules.specs.Script.{Script, tagOf}
+use Rattle.rules.proofs.Arms.{arms-length}
+use Rattle.rules.proofs.Operands.{tag-small}
+use Rattle.rules.proofs.Targets.{length-cond}
+
+-- the list, where a SWITCH has so many arms
+unfoldable pub listed : (tag arms : ℕ) → ℕ
+listed tag arms =
+    cond (among tag (RETURN ∷ THROW ∷ [])) 0
+    (cond (eqb tag JUMP) 1
+    (cond (among tag (JUMP-IF-TRUE ∷ JUMP-IF-FALSE ∷ SKIP-IF-NOT-UNIT ∷ ITER-NEXT ∷ ITER-NEXT-INDEXED ∷ PUSH-HANDLER ∷ PUSH-HANDLER-VAR ∷ [])) 2
+    (cond (eqb tag SWITCH) arms 1)))
+
+-- targets and fall-through
+summed : (tag arms : ℕ) → ℕ
+summed tag arms = cond (among tag jumping) 1 (cond (eqb tag SWITCH) arms 0) + cond (falls tag) 1 0
+
+agrees : ℕ → ℕ → Bool
+unfolding summed listed among falls
+agrees tag x = eqb (summed tag 0) (listed tag 0)
+
+same : (tag : ℕ) → tag < 256 → (arms : ℕ) → summed tag arms ≡ listed tag arms
+unfolding agrees
+same tag h arms = go (eqb tag SWITCH) refl
+  where
+    go : (b : Bool) → eqb tag SWITCH ≡ b → summed tag arms ≡ listed tag arms
+    go true e = rw (eqb-true tag SWITCH e) (omega arith)
+    go false e =
+        let zero : summed tag 0 ≡ listed tag 0 = eqb→eq (summed tag 0) (listed tag 0) (each agrees (replicate 256 0) tt tag h) in
+        rw e (rw e at zero)
+
+module _ (S : Script) (p : ℕ) where
+  -- a SWITCH's arms
+  abbrev pub arms : ℕ
+  arms = switchAt (S .pools .switches) (indexAt (S .code) p) .cases + switchAt (S .pools .switches) (indexAt (S .code) p) .ranges + 1
+
+  pub target-number : length (targets S p) ≡ cond (among (tagOf S p) jumping) 1 (cond (eqb (tagOf S p) SWITCH) arms 0)
+  unfolding targetsOf
+  target-number =
+      rw (← arms-length (S .pools .cases) (S .pools .ranges) (switchAt (S .pools .switches) (indexAt (S .code) p)))
+      (length-cond (among (tagOf S p) jumping) (eqb (tagOf S p) SWITCH) (targetAt (S .code) p ∷ [])
+      (armsOf (S .pools .cases) (S .pools .ranges) (switchAt (S .pools .switches) (indexAt (S .code) p))))
+
+  pub degree-listed : 0 < widthAt (S .code) p → degree S p ≡ listed (tagOf S p) arms
+  unfolding degree summed
+  degree-listed wide = rw target-number (same (tagOf S p) (tag-small (S .code) p wide) arms)

@@ -1,0 +1,83 @@
+-- Every operand that a rule reads lies inside its instruction: a computed test over the tags, and what it tells at each.
+use mathlib.Core.Bool.{Bool, true, cond}
+use mathlib.Core.List.{List, [], _∷_}
+use mathlib.Core.Path.{_≡_, refl}
+use Prim.Native.Nat.{ℕ, _+_, _-_, _≤_, _<_}
+use native.Mathlib.Omega.{arith}
+use lib.Dec.{T, eqb, leb, ltb, leb→le}
+use lib.ListN.{length, getD, replicate}
+use Rattle.code.proofs.Layouts.{tag-byte, sizes}
+use Rattle.code.proofs.Table.{each}
+use Rattle.code.proofs.Widths.{Wide, width-there}
+use Rattle.code.specs.Layout.{layout, among, tagAt}
+use Rattle.code.specs.Tags.{CHAIN, SWITCH}
+use Rattle.code.specs.Width.{widthOf, widthAt}
+use Rattle.rules.specs.Edges.{jumping}
+use Rattle.rules.specs.Shapes.{placeFrom}
+use Rattle.rules.specs.There.{qualifiable}
+use Rattle.rules.proofs.Tests.{all, pass}
+
+-- how far a count at a place reaches from the tag
+abbrev pub reach : ℕ → ℕ
+reach place = cond (eqb place 0) 0 (cond (ltb place 8) (place + 1) (place - 8 + 2))
+
+-- the tags that name an entry of a table by the two bytes after the tag
+abbrev pub naming : List ℕ
+naming = CHAIN ∷ SWITCH ∷ qualifiable
+
+module _ (tag : ℕ) where
+  -- the fields are few; count, target and index lie inside the width
+  tests : List Bool
+  unfolding layout among placeFrom sizes widthOf
+  tests =
+      leb (1 + sizes (layout tag)) 8
+      ∷ leb (reach (placeFrom (layout tag) 1)) (widthOf tag)
+      ∷ leb (cond (among tag jumping) 5 0) (widthOf tag)
+      ∷ leb (cond (among tag naming) 3 0) (widthOf tag)
+      ∷ []
+
+holds : ℕ → ℕ → Bool
+unfolding tests
+holds tag x = all (tests tag)
+
+module _ (code : List ℕ) (at : ℕ) (wide : 0 < widthAt code at) where
+  there : Wide widthOf code at (widthAt code at)
+  there = width-there widthOf code at wide
+
+  pub tag-there : at < length code
+  tag-there = there .byte
+
+  pub tag-small : tagAt code at < 256
+  tag-small = tag-byte (tagAt code at) (omega (arith, there .tag, there .some))
+
+  passes : (k : ℕ) → T (getD (tests (tagAt code at)) k true)
+  unfolding holds
+  passes k = pass k (tests (tagAt code at)) (each holds (replicate 256 0) tt (tagAt code at) tag-small)
+
+  pub few-bytes : 1 + sizes (layout (tagAt code at)) ≤ 8
+  unfolding tests
+  few-bytes = leb→le _ _ (passes 0)
+
+  -- from the tag as far as something is read, the code goes on
+  within : (end : ℕ) → T (leb end (widthOf (tagAt code at))) → at + end ≤ length code
+  within end t = omega (arith, there .tag, there .within, leb→le end (widthOf (tagAt code at)) t)
+
+  pub count-there : at + reach (placeFrom (layout (tagAt code at)) 1) ≤ length code
+  unfolding tests
+  count-there = within (reach (placeFrom (layout (tagAt code at)) 1)) (passes 1)
+
+  pub target-there : among (tagAt code at) jumping ≡ true → at + 5 ≤ length code
+  unfolding tests
+  target-there e = rw e at (within (cond (among (tagAt code at) jumping) 5 0) (passes 2))
+
+  pub index-there : among (tagAt code at) naming ≡ true → at + 3 ≤ length code
+  unfolding tests
+  index-there e = rw e at (within (cond (among (tagAt code at) naming) 3 0) (passes 3))
+
+  pub chain-there : tagAt code at ≡ CHAIN → at + 3 ≤ length code
+  unfolding among
+  chain-there e = index-there (rw (e, among) refl)
+
+  pub switch-there : tagAt code at ≡ SWITCH → at + 3 ≤ length code
+  unfolding among
+  switch-there e = index-there (rw (e, among) refl)

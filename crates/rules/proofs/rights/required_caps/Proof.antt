@@ -1,0 +1,74 @@
+-- `rules::rights::required_caps` meets its contract: the word of the tag says all, or a name decides, or a chain does.
+use mathlib.Core.Path.{ap, _∙_, sym, subst}
+use Prim.Native.Nat.{ℕ}
+use native.Mathlib.Omega.{arith}
+use borrow.Author.Needs.{needs}
+use Rattle.pools.specs.Pools.{chainAt}
+use Rattle.rules.specs.Rights.{ofName, ofChain}
+use Rattle.rules.specs.There.{ChainWhole}
+use Rattle.rules.proofs.Operands.{tag-there}
+use Rattle.rules.proofs.Joined.{Asked, word-rights, index-decided, named-there, name-rights, chained-there, chain-rights}
+use Rattle.rules.proofs.rights.required_caps.Statement.{statement}
+use Rattle.rules.proofs.rights.required_caps.Tie as tie
+
+shared-slice-read-asks-of : tie.Need-shared-slice-read-asks-of
+shared-slice-read-asks-of c = tag-there _ _ (c .before .before .before .before .before .pre .0)
+
+asks-of-requires : tie.Need-asks-of-requires
+asks-of-requires c κs = search needs
+
+asked : (c : tie.After-asks-of)
+    → Asked (c .before .before .before .before .before .before .args .code .now) (c .before .before .before .before .before .before .args .names .now)
+    (c .before .before .before .before .before .before .args .chains .now) (c .before .before .before .before .before .before .args .steps .now)
+    (c .before .before .before .before .before .before .args .at) (c .asks-of .result)
+asked c =
+    let start = c .before .before .before .before .before .before in
+    record { wide = start .pre .0; asks = c .asks-of .ensures; name-there = start .pre .1 .0; chain-whole = start .pre .1 .1 }
+
+returns : tie.Need-returns
+returns c = word-rights (asked (c .before)) (c .if1 .taken)
+
+add-read-u16 : tie.Need-add-read-u16
+add-read-u16 c = omega (arith, index-decided (asked (c .before)) (c .if1 .left))
+
+read-u16-requires : tie.Need-read-u16-requires
+read-u16-requires c κs = omega (arith, index-decided (asked (c .before)) (c .if1 .left))
+
+cast-i : tie.Need-cast-i
+cast-i c = search needs
+
+name-caps-requires : tie.Need-name-caps-requires
+name-caps-requires c κs = omega (arith, c .before .read-u16 .ensures, named-there (asked (c .before .before .before)) (c .if2 .taken))
+
+returns-2 : tie.Need-returns-2
+returns-2 c =
+    let start = c .before .before .before .before .before .before .before .before .before .before in
+    name-rights (asked (c .before .before .before .before)) (c .before .if2 .taken) _
+    (c .name-caps .ensures ∙ ap (λ (i : ℕ). ofName (start .args .names .now) i) (c .before .before .read-u16 .ensures))
+
+chain-caps-requires : tie.Need-chain-caps-requires
+chain-caps-requires c κs =
+    let start = c .before .before .before .before .before .before .before .before .before in
+    subst (λ (i : ℕ). ChainWhole (start .args .chains .now) (start .args .steps .now) i) (sym (c .before .read-u16 .ensures))
+    (chained-there (asked (c .before .before .before)) (c .before .before .if1 .left) (c .if2 .left))
+
+returns-3 : tie.Need-returns-3
+returns-3 c =
+    let start = c .before .before .before .before .before .before .before .before .before .before in
+    chain-rights (asked (c .before .before .before .before)) (c .before .before .before .if1 .left) (c .before .if2 .left) _
+    (c .chain-caps .ensures ∙ ap (λ (i : ℕ). ofChain (start .args .steps .now) (chainAt (start .args .chains .now) i)) (c .before .before .read-u16 .ensures))
+
+pub required-caps-spec : {M : Type 1} → statement M
+required-caps-spec =
+    tie.close
+    (tie.spec
+    shared-slice-read-asks-of
+    asks-of-requires
+    returns
+    add-read-u16
+    read-u16-requires
+    cast-i
+    name-caps-requires
+    returns-2
+    chain-caps-requires
+    returns-3)

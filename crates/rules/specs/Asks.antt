@@ -1,0 +1,23 @@
+-- What the word that the crate keeps of a tag's rights says: the rights that it needs whatever its operands are, and above
+-- them, from 65536 on, what else decides: 0 nothing, 1 the flag of a name, 2 a chain.
+use mathlib.Core.Bool.{cond}
+use mathlib.Core.List.{List}
+use mathlib.Core.Path.{_≡_}
+use Prim.Native.Nat.{ℕ, _/_, _%_}
+use lib.Bits.{bitOr}
+use lib.Dec.{eqb, leb}
+use Rattle.code.specs.Layout.{among, tagAt, indexAt}
+use Rattle.code.specs.Tags.{CHAIN}
+use Rattle.pools.specs.Pools.{chainAt}
+use Rattle.rules.specs.Rights.{ofName, ofChain, required}
+use Rattle.rules.specs.There.{qualifiable}
+
+-- what a word asks for, where the name and the chain ask for these
+unfoldable pub asking : (word name chain : ℕ) → ℕ
+asking word name chain = cond (eqb (word / 65536) 0) word (cond (eqb (word / 65536) 1) (bitOr (word % 65536) name) chain)
+
+pub record Asks (tag word : ℕ) : Type 0 where
+  pub by-name : among tag qualifiable ≡ eqb (word / 65536) 1
+  pub by-chain : eqb tag CHAIN ≡ leb 2 (word / 65536)
+  pub needed : (code names chains steps : List ℕ) (p : ℕ) → tagAt code p ≡ tag
+      → asking word (ofName names (indexAt code p)) (ofChain steps (chainAt chains (indexAt code p))) ≡ required code names chains steps p

@@ -1,0 +1,51 @@
+-- What a caller knows of an instruction before its rule is asked: that the entries which it names are there, and the
+-- iterators and handlers that it needs. The checks of tables and indices that come before any walk establish the entries at
+-- every start of the code.
+use mathlib.Core.Bool.{true}
+use mathlib.Core.List.{List, [], _∷_}
+use mathlib.Core.Path.{_≡_}
+use Prim.Native.Nat.{ℕ, _+_, _^_, _≤_, _<_}
+use lib.ListN.{length}
+use Rattle.code.specs.Layout.{among, tagAt, indexAt}
+use Rattle.code.specs.Tags.{LOAD-NAMED, CHAIN, SWITCH, CALL, CALL-THIS-REF, CALL-OP, CALL-LOCAL-REF, CALL-NAMED-REF}
+use Rattle.pools.specs.Pools.{whole, chainAt, switchAt}
+use Rattle.rules.specs.declared.Depths.{Depths}
+use Rattle.rules.specs.Paths.{iteratorsNeeded, handlersNeeded}
+
+-- the chain of this number is in its table, and its steps are in theirs
+pub record ChainWhole (chains steps : List ℕ) (i : ℕ) : Type 0 where
+  pub entry : i < whole 7 chains
+  pub within : chainAt chains i .firstStep + chainAt chains i .steps ≤ whole 4 steps
+
+-- the switch of this number is in its table, and its cases and ranges are in theirs
+pub record SwitchWhole (switches cases ranges : List ℕ) (i : ℕ) : Type 0 where
+  pub entry : i < whole 5 switches
+  pub cases-within : switchAt switches i .firstCase + switchAt switches i .cases ≤ whole 2 cases
+  pub ranges-within : switchAt switches i .firstRange + switchAt switches i .ranges ≤ length ranges
+
+-- the tags whose rights go by the flag of a name
+abbrev pub qualifiable : List ℕ
+qualifiable = LOAD-NAMED ∷ CALL ∷ CALL-OP ∷ CALL-LOCAL-REF ∷ CALL-NAMED-REF ∷ CALL-THIS-REF ∷ []
+
+-- of the instruction at a place: the name, the chain or the switch that it names
+pub record NameThere (code names : List ℕ) (p : ℕ) : Type 0 where
+  pub name : among (tagAt code p) qualifiable ≡ true → indexAt code p < length names
+
+pub record ChainEntry (code chains : List ℕ) (p : ℕ) : Type 0 where
+  pub entry : tagAt code p ≡ CHAIN → indexAt code p < whole 7 chains
+
+pub record ChainThere (code chains steps : List ℕ) (p : ℕ) : Type 0 where
+  pub chain : tagAt code p ≡ CHAIN → ChainWhole chains steps (indexAt code p)
+
+pub record SwitchEntry (code switches : List ℕ) (p : ℕ) : Type 0 where
+  pub entry : tagAt code p ≡ SWITCH → indexAt code p < whole 5 switches
+
+pub record SwitchThere (code switches cases ranges : List ℕ) (p : ℕ) : Type 0 where
+  pub switch : tagAt code p ≡ SWITCH → SwitchWhole switches cases ranges (indexAt code p)
+
+-- a tag finds the iterators and handlers that it needs, and one more of each fits a word of 32 bits
+pub record Held (tag : ℕ) (d : Depths) : Type 0 where
+  pub iterators : iteratorsNeeded tag ≤ d .iterators
+  pub handlers : handlersNeeded tag ≤ d .handlers
+  pub iterators-fit : d .iterators + 1 < 2 ^ 32
+  pub handlers-fit : d .handlers + 1 < 2 ^ 32

@@ -1,0 +1,195 @@
+// Where an instruction leads to, and with which depths: document 01's targets and edges.
+ghost use mathlib.Core.Bool.{cond};
+ghost use mathlib.Core.List.{List};
+ghost use mathlib.Core.Path.{_≡_};
+ghost use Prim.Native.Nat.{ℕ, _+_, _-_, _^_, _≤_, _<_};
+ghost use lib.ListN.{length, getD};
+ghost use Rattle.code.specs.Layout.{tagAt};
+ghost use Rattle.code.specs.Width.{widthAt};
+ghost use Rattle.pools.specs.Pools.{switchAt};
+ghost use Rattle.rules.specs.Edges.{falls, plain, armsOf, targetsOf, afterOf, jumpedOf};
+ghost use Rattle.rules.specs.Paths.{iteratorsNeeded, handlersNeeded};
+ghost use Rattle.rules.specs.There.{SwitchEntry, SwitchWhole, SwitchThere, Held};
+use crate::Depths;
+use crate::Effect;
+use crate::shapes;
+use code::tag;
+use pools::CASE_WORDS;
+use pools::SWITCH_WORDS;
+
+// Control goes on to the next instruction after this tag.
+pub fn falls(tag: u8) -> bool
+    ensures { λ r. ⌜ r ≡ falls tag ⌝ }
+{
+    shapes::flow_of(tag) < shapes::JUMP
+}
+
+// And nowhere else.
+pub fn plain(tag: u8) -> bool
+    ensures { λ r. ⌜ r ≡ plain tag ⌝ }
+{
+    shapes::flow_of(tag) < shapes::ITER_NEXT
+}
+
+// How many iterators a tag needs.
+pub fn iterators_needed(tag: u8) -> u32
+    ensures { λ r. ⌜ r ≡ iteratorsNeeded tag ⌝ }
+{
+    let flow = shapes::flow_of(tag);
+    if flow == shapes::ITER_DROP {
+        return 1;
+    }
+    if flow == shapes::ITER_NEXT { 1 } else { 0 }
+}
+
+// How many handlers a tag needs.
+pub fn handlers_needed(tag: u8) -> u32
+    ensures { λ r. ⌜ r ≡ handlersNeeded tag ⌝ }
+{
+    if shapes::flow_of(tag) == shapes::POP_HANDLER {
+        1
+    } else {
+        0
+    }
+}
+
+// The depths just after an instruction.
+pub fn after(tag: u8, effect: Effect, d: Depths) -> Depths
+    requires { ⌜ Held tag d ⌝ }
+    requires { ⌜ effect .pops ≤ d .operands ⌝ }
+    requires { ⌜ d .operands - effect .pops + effect .pushes < 2 ^ 32 ⌝ }
+    ensures { λ r. ⌜ r ≡ afterOf tag (effect .pops) (effect .pushes) d ⌝ }
+{
+    let operands = d.operands - effect.pops + effect.pushes;
+    let iterators = d.iterators;
+    let handlers = d.handlers;
+    let flow = shapes::flow_of(tag);
+    match flow {
+        shapes::ITER_INIT => Depths {
+            operands,
+            iterators: iterators + 1,
+            handlers,
+        },
+        shapes::ITER_DROP => Depths {
+            operands,
+            iterators: iterators - 1,
+            handlers,
+        },
+        shapes::PUSH_HANDLER => Depths {
+            operands,
+            iterators,
+            handlers: handlers + 1,
+        },
+        shapes::POP_HANDLER => Depths {
+            operands,
+            iterators,
+            handlers: handlers - 1,
+        },
+        _ => Depths {
+            operands,
+            iterators,
+            handlers,
+        },
+    }
+}
+
+// The depths at each of its targets. An iterator that ends is dropped, and pushes nothing; a handler finds the operands
+// from before it.
+pub fn jumped(tag: u8, before: Depths, after: Depths) -> Depths
+    requires { ⌜ Held tag before ⌝ }
+    ensures { λ r. ⌜ r ≡ jumpedOf tag before after ⌝ }
+{
+    let flow = shapes::flow_of(tag);
+    match flow {
+        shapes::ITER_NEXT => Depths {
+            operands: before.operands,
+            iterators: before.iterators - 1,
+            handlers: before.handlers,
+        },
+        shapes::PUSH_HANDLER => Depths {
+            operands: before.operands,
+            iterators: before.iterators,
+            handlers: before.handlers + 1,
+        },
+        _ => after,
+    }
+}
+
+// How many targets the instruction at an offset names.
+pub fn target_count(code: &[u8], at: usize, switches: &[u32]) -> u64
+    requires { ⌜ 0 < widthAt (now code) at ⌝ }
+    requires { ⌜ SwitchEntry (now code) (now switches) at ⌝ }
+    ensures { λ r. ⌜ ((cases ranges : List ℕ) → r ≡ length (targetsOf (now (code .entry)) (now (switches .entry)) cases ranges at)) ⌝ }
+{
+    let flow = shapes::flow_of(code[at]);
+    if flow < shapes::ITER_NEXT {
+        return 0;
+    }
+    if flow < shapes::SWITCH {
+        return 1;
+    }
+    if flow == shapes::SWITCH {
+        let i = code::read_u16(code, at + 1) as usize;
+        let words = i * SWITCH_WORDS;
+        return switches[words + 1] as u64 + switches[words + 3] as u64 + 1;
+    }
+    0
+}
+
+// How many edges lead out of it: one to each target, and one to the next instruction where control falls through.
+pub fn edge_count(code: &[u8], at: usize, switches: &[u32]) -> u64
+    requires { ⌜ 0 < widthAt (now code) at ⌝ }
+    requires { ⌜ SwitchEntry (now code) (now switches) at ⌝ }
+    ensures { λ r. ⌜ ((cases ranges : List ℕ)
+        → r ≡ length (targetsOf (now (code .entry)) (now (switches .entry)) cases ranges at) + cond (falls (tagAt (now (code .entry)) at)) 1 0) ⌝ }
+{
+    let targets = target_count(code, at, switches);
+    if falls(code[at]) {
+        targets + 1
+    } else {
+        targets
+    }
+}
+
+// The arm of this number of a switch: cases, ranges, default.
+fn arm(switches: &[u32], cases: &[u32], ranges: &[u32], i: usize, k: usize) -> u32
+    requires { ⌜ SwitchWhole (now switches) (now cases) (now ranges) i ⌝ }
+    requires { ⌜ k < length (armsOf (now cases) (now ranges) (switchAt (now switches) i)) ⌝ }
+    ensures { λ r. ⌜ r ≡ getD (armsOf (now (cases .entry)) (now (ranges .entry)) (switchAt (now (switches .entry)) i)) k 0 ⌝ }
+{
+    let words = i * SWITCH_WORDS;
+    let case_count = switches[words + 1] as usize;
+    if k < case_count {
+        let case = switches[words] as usize + k;
+        return cases[case * CASE_WORDS];
+    }
+    let past = k - case_count;
+    let range_count = switches[words + 3] as usize;
+    if past < range_count {
+        let range = switches[words + 2] as usize + past;
+        return ranges[range];
+    }
+    switches[words + 4]
+}
+
+// The target of this number.
+pub fn jump_target(
+    code: &[u8],
+    at: usize,
+    switches: &[u32],
+    cases: &[u32],
+    ranges: &[u32],
+    k: usize,
+) -> u32
+    requires { ⌜ 0 < widthAt (now code) at ⌝ }
+    requires { ⌜ SwitchThere (now code) (now switches) (now cases) (now ranges) at ⌝ }
+    requires { ⌜ k < length (targetsOf (now code) (now switches) (now cases) (now ranges) at) ⌝ }
+    ensures { λ r. ⌜ r ≡ getD (targetsOf (now (code .entry)) (now (switches .entry)) (now (cases .entry)) (now (ranges .entry)) at) k 0 ⌝ }
+{
+    if code[at] == tag::SWITCH {
+        let i = code::read_u16(code, at + 1) as usize;
+        arm(switches, cases, ranges, i, k)
+    } else {
+        code::read_u32(code, at + 1)
+    }
+}
