@@ -1,0 +1,20 @@
+-- `indices::records::check_tail` meets its contract: its test is the definition's.
+use borrow.Author.Tests.{eq-eqb, ne-eqb}
+use borrow.Author.Needs.{needs}
+use Rattle.indices.specs.Indices.{numbered, sizeOf, tailRefs, firstBad}
+use Rattle.indices.proofs.records.check_tail.Statement.{statement}
+use Rattle.indices.proofs.records.check_tail.Tie as tie
+
+bounded-requires : tie.Need-bounded-requires
+bounded-requires c κs = search needs
+
+returns : tie.Need-returns
+unfolding tailRefs sizeOf firstBad
+returns c = rw (eq-eqb _ _ (c .before .if1 .taken)) (c .bounded .ensures)
+
+returns-2 : tie.Need-returns-2
+unfolding tailRefs numbered firstBad
+returns-2 c = rw (ne-eqb _ _ (c .if1 .left))
+
+pub check-tail-spec : {M : Type 1} → statement M
+check-tail-spec = tie.close (tie.spec bounded-requires returns returns-2)

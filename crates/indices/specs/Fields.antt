@@ -1,0 +1,14 @@
+-- How the code's table writes the indices of a tag: a number of four hexadecimal digits, offset and pool of the first, then
+-- offset and pool of the second; 0 where there is no index, and 00 at the end where there is no second.
+use mathlib.Core.Bool.{cond}
+use mathlib.Core.List.{List, [], _∷_}
+use Prim.Native.Nat.{ℕ, _/_, _%_}
+use lib.Dec.{eqb}
+use Rattle.code.specs.Layout.{Index}
+
+-- two digits
+abbrev pub digits : ℕ → Index
+digits n = record { offset = n / 16; pool = n % 16 }
+
+unfoldable pub unpacked : ℕ → List Index
+unpacked n = cond (eqb n 0) [] (digits (n / 256) ∷ cond (eqb (n % 256) 0) [] (digits (n % 256) ∷ []))

@@ -1,0 +1,6 @@
+-- The laws of tests in their order, of the limits and of the tables, each of which cites those above it.
+pub mod First
+pub mod LimitLaws
+pub mod Entries
+pub mod TableLaws
+pub mod Once

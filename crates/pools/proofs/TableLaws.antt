@@ -1,0 +1,195 @@
+-- What the tests of the tables tell in their order, for each way through them; and what that says of the tables.
+use mathlib.Core.Bool.{Bool, true, false, true≢false}
+use mathlib.Core.List.{List, [], _∷_}
+use mathlib.Core.Path.{_≡_, refl, sym, ap, _∙_}
+use Prim.Native.Nat.{ℕ, _%_, _<_}
+use native.Mathlib.Nat.{div-add-mod', mul-comm}
+use native.Mathlib.Omega.{arith}
+use borrow.Author.Tests.{lt-ltb, le-ltb, ltb-false}
+use lib.ListN.{length}
+use Rattle.pools.specs.Good.{Whole, AllWhole, GoodChains, GoodSteps, GoodTables}
+use Rattle.pools.specs.Pools.{whole, chainAt, stepAt, switchAt}
+use Rattle.pools.specs.Tables.{ragged, badChain, badStep, badSwitch, wholeTable, goodChains, goodSteps, goodSwitches, firstBad}
+use Rattle.pools.specs.Told.{Told, fine, badTable, first}
+use Rattle.pools.proofs.Entries.{not-bad-chain, good-chain, not-bad-step, good-step, not-bad-switch, good-switch}
+use Rattle.pools.proofs.First.{passes-on, refuses-here, FirstAt, Upward, none, first-at, told-upward}
+
+-- ---- a table's words
+
+module _ (size : ℕ) (words : List ℕ) where
+  pub left-over : 0 < length words % size → ragged size words ≡ true
+  unfolding ragged
+  left-over h = lt-ltb 0 (length words % size) h
+
+  pub none-over : length words % size ≡ 0 → ragged size words ≡ false
+  unfolding ragged
+  none-over e = le-ltb 0 (length words % size) (omega arith)
+
+  pub not-ragged : Whole size words → ragged size words ≡ false
+  not-ragged w =
+      none-over (omega (arith, w, div-add-mod' (length words) size, mul-comm size (whole size words)))
+
+  pub is-whole : ragged size words ≡ false → Whole size words
+  unfolding ragged
+  is-whole e =
+      omega (arith, ltb-false 0 (length words % size) e, div-add-mod' (length words) size, mul-comm size (whole size words))
+
+-- ---- the ways through the tests
+
+module _ (chains steps switches cases ranges : List ℕ) where
+  abbrev told : Told
+  told = firstBad chains steps switches cases ranges
+
+  -- what the entries of each table tell
+  abbrev inChains : Told
+  inChains = goodChains chains (whole 4 steps)
+
+  abbrev inSteps : Told
+  inSteps = goodSteps steps
+
+  abbrev inSwitches : Told
+  inSwitches = goodSwitches switches (whole 2 cases) (length ranges)
+
+  pub ragged-chains : ragged 7 chains ≡ true → badTable 1 (whole 7 chains) ≡ told
+  unfolding firstBad wholeTable first
+  ragged-chains e = simp e
+
+  pub ragged-steps : ragged 7 chains ≡ false → ragged 4 steps ≡ true → badTable 2 (whole 4 steps) ≡ told
+  unfolding firstBad wholeTable first
+  ragged-steps c e = simp (c, e)
+
+  pub ragged-switches : ragged 7 chains ≡ false → ragged 4 steps ≡ false → ragged 5 switches ≡ true
+      → badTable 3 (whole 5 switches) ≡ told
+  unfolding firstBad wholeTable first
+  ragged-switches c s e = simp (c, s, e)
+
+  pub ragged-cases : ragged 7 chains ≡ false → ragged 4 steps ≡ false → ragged 5 switches ≡ false → ragged 2 cases ≡ true
+      → badTable 4 (whole 2 cases) ≡ told
+  unfolding firstBad wholeTable first
+  ragged-cases c s w e = simp (c, s, w, e)
+
+  pub record NoneRagged : Type 0 where
+    pub chains-whole : ragged 7 chains ≡ false
+    pub steps-whole : ragged 4 steps ≡ false
+    pub switches-whole : ragged 5 switches ≡ false
+    pub cases-whole : ragged 2 cases ≡ false
+
+  -- where none is ragged the entries tell
+  by-entries : NoneRagged → told ≡ first (inChains ∷ inSteps ∷ inSwitches ∷ [])
+  unfolding firstBad wholeTable first
+  by-entries n = simp (n .chains-whole, n .steps-whole, n .switches-whole, n .cases-whole)
+
+  pub in-chains : NoneRagged → {t : Told} → t ≡ inChains → 0 < t .kind → t ≡ told
+  in-chains n e h = e ∙ sym (by-entries n ∙ refuses-here inChains _ (rw e at h))
+
+  pub in-steps : NoneRagged → fine ≡ inChains → {t : Told} → t ≡ inSteps → 0 < t .kind → t ≡ told
+  in-steps n c e h =
+      e ∙ sym (by-entries n ∙ passes-on inChains _ (ap (λ (t : Told). t .kind) (sym c)) ∙ refuses-here inSteps _ (rw e at h))
+
+  -- the last of the entries tell for themselves
+  by-switches : first (inSwitches ∷ []) ≡ inSwitches
+  unfolding first
+  by-switches = go (told-upward (badTable 3) _ (whole 5 switches))
+    where
+      go : {t : Told} → Upward (badTable 3) (λ i. badSwitch (whole 2 cases) (length ranges) (switchAt switches i)) (whole 5 switches) t
+          → first (t ∷ []) ≡ t
+      go (none each e) = rw e
+      go (first-at i at e) = rw e
+
+  pub in-switches : NoneRagged → fine ≡ inChains → fine ≡ inSteps → inSwitches ≡ told
+  in-switches n c s =
+      sym (by-entries n ∙ passes-on inChains _ (ap (λ (t : Told). t .kind) (sym c))
+      ∙ passes-on inSteps _ (ap (λ (t : Told). t .kind) (sym s)) ∙ by-switches)
+
+  -- ---- what they say of the tables
+
+  -- this entry of this table is the first that is bad: all that stands before it in the order is good. Of a ragged table
+  -- the entry is the one that is cut off
+  pub data FirstIs : (table entry : ℕ) → Type 0 where
+    ragged-chain : ragged 7 chains ≡ true → FirstIs 1 (whole 7 chains)
+    ragged-step : Whole 7 chains → ragged 4 steps ≡ true → FirstIs 2 (whole 4 steps)
+    ragged-switch : Whole 7 chains → Whole 4 steps → ragged 5 switches ≡ true → FirstIs 3 (whole 5 switches)
+    ragged-case : Whole 7 chains → Whole 4 steps → Whole 5 switches → ragged 2 cases ≡ true → FirstIs 4 (whole 2 cases)
+    bad-chain : {i : ℕ} → AllWhole chains steps switches cases
+        → FirstAt (λ k. badChain (whole 4 steps) (chainAt chains k)) (whole 7 chains) i → FirstIs 1 i
+    bad-step : {i : ℕ} → AllWhole chains steps switches cases → GoodChains chains steps
+        → FirstAt (λ k. badStep (stepAt steps k)) (whole 4 steps) i → FirstIs 2 i
+    bad-switch : {i : ℕ} → AllWhole chains steps switches cases → GoodChains chains steps → GoodSteps steps
+        → FirstAt (λ k. badSwitch (whole 2 cases) (length ranges) (switchAt switches k)) (whole 5 switches) i → FirstIs 3 i
+
+  -- the tables are good, or what is told is the first that is bad
+  pub data Outcome (t : Told) : Type 0 where
+    good : GoodTables chains steps switches cases ranges → t ≡ fine → Outcome t
+    refused : {table entry : ℕ} → FirstIs table entry → t ≡ badTable table entry → Outcome t
+
+  all-whole : NoneRagged → AllWhole chains steps switches cases
+  all-whole n = record {
+    chains-whole = is-whole 7 chains (n .chains-whole);
+    steps-whole = is-whole 4 steps (n .steps-whole);
+    switches-whole = is-whole 5 switches (n .switches-whole);
+    cases-whole = is-whole 2 cases (n .cases-whole);
+  }
+
+  by-entry : NoneRagged → Outcome told
+  by-entry n =
+      in-turn (told-upward (badTable 1) _ (whole 7 chains)) (told-upward (badTable 2) _ (whole 4 steps))
+      (told-upward (badTable 3) _ (whole 5 switches))
+    where
+      in-turn : Upward (badTable 1) (λ i. badChain (whole 4 steps) (chainAt chains i)) (whole 7 chains) inChains
+          → Upward (badTable 2) (λ i. badStep (stepAt steps i)) (whole 4 steps) inSteps
+          → Upward (badTable 3) (λ i. badSwitch (whole 2 cases) (length ranges) (switchAt switches i)) (whole 5 switches) inSwitches
+          → Outcome told
+      in-turn (first-at i at e) s w = refused (bad-chain (all-whole n) at) (sym (in-chains n (sym e) (omega arith)))
+      in-turn (none c p) (first-at i at e) w =
+          refused (bad-step (all-whole n) (λ k h. good-chain _ _ (c k h)) at) (sym (in-steps n (sym p) (sym e) (omega arith)))
+      in-turn (none c p) (none s q) (first-at i at e) =
+          refused (bad-switch (all-whole n) (λ k h. good-chain _ _ (c k h)) (λ k h. good-step _ (s k h)) at)
+          (sym (in-switches n (sym p) (sym q)) ∙ e)
+      in-turn (none c p) (none s q) (none w e) =
+          good
+          (record {
+            all-whole = all-whole n;
+            good-chains = λ k h. good-chain _ _ (c k h);
+            good-steps = λ k h. good-step _ (s k h);
+            good-switches = λ k h. good-switch _ _ _ (w k h);
+          })
+          (sym (in-switches n (sym p) (sym q)) ∙ e)
+
+  pub outcome : Outcome told
+  outcome = go (ragged 7 chains) refl (ragged 4 steps) refl (ragged 5 switches) refl (ragged 2 cases) refl
+    where
+      go : (c : Bool) → ragged 7 chains ≡ c → (s : Bool) → ragged 4 steps ≡ s → (w : Bool) → ragged 5 switches ≡ w
+          → (k : Bool) → ragged 2 cases ≡ k → Outcome told
+      go true c s q w r k t = refused (ragged-chain c) (sym (ragged-chains c))
+      go false c true s w r k t = refused (ragged-step (is-whole 7 chains c) s) (sym (ragged-steps c s))
+      go false c false s true w k t =
+          refused (ragged-switch (is-whole 7 chains c) (is-whole 4 steps s) w) (sym (ragged-switches c s w))
+      go false c false s false w true k =
+          refused (ragged-case (is-whole 7 chains c) (is-whole 4 steps s) (is-whole 5 switches w) k) (sym (ragged-cases c s w k))
+      go false c false s false w false k =
+          by-entry (record { chains-whole = c; steps-whole = s; switches-whole = w; cases-whole = k })
+
+  -- what passes is good
+  pub passed-good : told .kind ≡ 0 → GoodTables chains steps switches cases ranges
+  passed-good z = go outcome
+    where
+      go : Outcome told → GoodTables chains steps switches cases ranges
+      go (good g e) = g
+      go (refused f e) = absurd (omega (arith, ap (λ (t : Told). t .kind) e))
+
+  -- and what is good passes: in good tables nothing is the first that is bad
+  none-first : GoodTables chains steps switches cases ranges → {table entry : ℕ} → FirstIs table entry → ⊥
+  none-first g (ragged-chain r) = true≢false (sym r ∙ not-ragged 7 chains (g .all-whole .chains-whole))
+  none-first g (ragged-step c r) = true≢false (sym r ∙ not-ragged 4 steps (g .all-whole .steps-whole))
+  none-first g (ragged-switch c s r) = true≢false (sym r ∙ not-ragged 5 switches (g .all-whole .switches-whole))
+  none-first g (ragged-case c s w r) = true≢false (sym r ∙ not-ragged 2 cases (g .all-whole .cases-whole))
+  none-first g (bad-chain a f) = true≢false (sym (f .is-bad) ∙ not-bad-chain _ _ (g .good-chains _ (f .within)))
+  none-first g (bad-step a c f) = true≢false (sym (f .is-bad) ∙ not-bad-step _ (g .good-steps _ (f .within)))
+  none-first g (bad-switch a c s f) = true≢false (sym (f .is-bad) ∙ not-bad-switch _ _ _ (g .good-switches _ (f .within)))
+
+  pub good-passed : GoodTables chains steps switches cases ranges → told ≡ fine
+  good-passed g = go outcome
+    where
+      go : Outcome told → told ≡ fine
+      go (good h e) = e
+      go (refused f e) = absurd (none-first g f)
