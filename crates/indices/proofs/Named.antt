@@ -1,5 +1,4 @@
--- What an instruction names: by its first index, which stands right after the tag, and in the record of that index. Where
--- nothing is bad, it is there.
+-- What an instruction names by its first index: a chain, a switch or a name. Where nothing is bad, it is there.
 use mathlib.Core.Bool.{Bool, true, false, _||_}
 use mathlib.Core.List.{List, [], _∷_, map, List·Memᴰ, List·Memᴰ·head, List·Memᴰ·tail}
 use mathlib.Core.Path.{_≡_, refl, ap}
@@ -18,24 +17,28 @@ use Rattle.indices.specs.declared.Sizes.{Sizes}
 use Rattle.indices.proofs.Laws.{fine-first, fine-below}
 use Rattle.indices.proofs.Table.{within}
 
--- ---- the first index
+-- ---- the first index, right after the tag
 
--- a tag has an index into this pool right after it
+-- an index right after the tag, into this pool
+abbrev opening : ℕ → Index
+opening pool = record { offset = 1; pool = pool }
+
+-- this tag has one
 abbrev Opens : ℕ → ℕ → Type 0
-Opens pool tag = List·Memᴰ (record { offset = 1; pool = pool }) (indices tag)
+Opens pool tag = List·Memᴰ (opening pool) (indices tag)
 
 module _ (code : List ℕ) (at tag pool : ℕ) (has : tagAt code at ≡ tag) (opens : Opens pool tag) where
   -- so it lies within the code
   opening-within : tag < 256 → 0 < widthAt code at → at + 1 + 2 ≤ length code
   opening-within h there =
       let wide = width-there widthOf code at there in
-      omega (arith, within tag h (record { offset = 1; pool = pool }) opens, ap widthOf has, wide .tag, wide .within)
+      omega (arith, within tag h (opening pool) opens, ap widthOf has, wide .tag, wide .within)
 
   -- and is below the size of the pool, where nothing among the bytes is bad
   opening-below : (size : ℕ → ℕ) → firstBad size (inCode code at) ≡ fine → indexAt code at < size pool
   unfolding inCode
   opening-below size e =
-      fine-below size (map (refAt code at) (indices tag)) (rw has at e) (refAt code at (record { offset = 1; pool = pool })) (mapped (indices tag) opens)
+      fine-below size (map (refAt code at) (indices tag)) (rw has at e) (refAt code at (opening pool)) (mapped (indices tag) opens)
     where
       mapped : {i : Index} (is : List Index) → List·Memᴰ i is → List·Memᴰ (refAt code at i) (map (refAt code at) is)
       mapped (j ∷ js) (List·Memᴰ·head q) = List·Memᴰ·head (ap (refAt code at) q)
@@ -74,17 +77,27 @@ each-among P tag (t ∷ ts) ps e = go (eqb tag t) refl (each-among P tag ts (ps 
 qualifiable-opens : (tag : ℕ) → among tag qualifiable ≡ true → Opens names tag
 unfolding layout among indicesFrom
 qualifiable-opens tag e =
-    each-among (Opens names) tag qualifiable
-    (List·Memᴰ·head refl, (List·Memᴰ·head refl, (List·Memᴰ·head refl, (List·Memᴰ·head refl, (List·Memᴰ·head refl, (List·Memᴰ·head refl, tt)))))) e
+    each-among (Opens names) tag qualifiable (
+      List·Memᴰ·head refl,
+      (
+        List·Memᴰ·head refl,
+        (
+          List·Memᴰ·head refl,
+          (List·Memᴰ·head refl, (List·Memᴰ·head refl, (List·Memᴰ·head refl, tt))),
+        ),
+      ),
+    ) e
 
 -- ---- the record that it names
 
 module _ (t : Tables) (code : List ℕ) (at : ℕ) where
-  pub chain-record : tagAt code at ≡ CHAIN → inRecord t code at ≡ chainRefs (t .steps) (chainAt (t .chains) (indexAt code at))
+  pub chain-record : tagAt code at ≡ CHAIN
+      → inRecord t code at ≡ chainRefs (t .steps) (chainAt (t .chains) (indexAt code at))
   unfolding inRecord
   chain-record has = rw has
 
-  pub switch-record : tagAt code at ≡ SWITCH → inRecord t code at ≡ switchRefs (t .cases) (switchAt (t .switches) (indexAt code at))
+  pub switch-record : tagAt code at ≡ SWITCH
+      → inRecord t code at ≡ switchRefs (t .cases) (switchAt (t .switches) (indexAt code at))
   unfolding inRecord
   switch-record has = rw has
 
@@ -92,7 +105,7 @@ module _ (t : Tables) (code : List ℕ) (at : ℕ) where
   unfolding inRecord
   no-record c s = rw (ne-eqb _ _ c, ne-eqb _ _ s)
 
--- its index can be read
+-- the index of its record can be read
 pub chain-read : (code : List ℕ) (at : ℕ) → tagAt code at ≡ CHAIN → 0 < widthAt code at → at + 1 + 2 ≤ length code
 chain-read code at has = opening-within code at CHAIN chains has chain-opens (lit< tt)
 
@@ -102,21 +115,21 @@ switch-read code at has = opening-within code at SWITCH switches has switch-open
 -- ---- where none of its own indices is bad
 
 module _ (s : Sizes) (code : List ℕ) (at : ℕ) (own : firstBad (sizeOf s) (inCode code at) ≡ fine) where
-  -- a chain that it names is below their number, and so is a switch
-  chain-below : tagAt code at ≡ CHAIN → indexAt code at < s .chains
+  -- a chain that it names is below the number of chains, and so with a switch
+  pub chain-below : tagAt code at ≡ CHAIN → indexAt code at < s .chains
   unfolding sizeOf
   chain-below has = opening-below code at CHAIN chains has chain-opens (sizeOf s) own
 
-  switch-below : tagAt code at ≡ SWITCH → indexAt code at < s .switches
+  pub switch-below : tagAt code at ≡ SWITCH → indexAt code at < s .switches
   unfolding sizeOf
   switch-below has = opening-below code at SWITCH switches has switch-opens (sizeOf s) own
 
-  -- so is a name by whose flag its rights go
-  name-below : among (tagAt code at) qualifiable ≡ true → indexAt code at < s .names
+  -- and with a name by whose flag its rights go
+  pub name-below : among (tagAt code at) qualifiable ≡ true → indexAt code at < s .names
   unfolding sizeOf
   name-below e = opening-below code at (tagAt code at) names refl (qualifiable-opens (tagAt code at) e) (sizeOf s) own
 
-  -- and of sites there are none
+  -- of sites there are none to name
   site-below : tagAt code at ≡ CUSTOM-SYNTAX → indexAt code at < 0
   unfolding sizeOf
   site-below has = opening-below code at CUSTOM-SYNTAX sites has site-opens (sizeOf s) own

@@ -12,7 +12,7 @@ use Rattle.code.specs.Layout.{Index, indices, tagAt}
 use Rattle.code.specs.Width.{widthOf, widthAt}
 use Rattle.code.proofs.Widths.{Wide, width-there}
 use Rattle.indices.specs.Fields.{digits, unpacked}
-use Rattle.indices.specs.Indices.{fine, numbered, refAt, inCode, firstBad}
+use Rattle.indices.specs.Indices.{Ref, fine, numbered, refAt, inCode, firstBad}
 use Rattle.indices.specs.declared.Checked.{Checked}
 use Rattle.indices.specs.declared.Checked.the-variants.{Fine, Bad}
 use Rattle.indices.proofs.Laws.{goes-on, stops}
@@ -23,6 +23,13 @@ abbrev second : ℕ → List Index
 second e = cond (eqb (e % 256) 0) [] (digits (e % 256) ∷ [])
 
 module _ (code : List ℕ) (at e : ℕ) (is : unpacked e ≡ indices (tagAt code at)) where
+  -- the first index as a reference, and the second, if there is one
+  abbrev head : List Ref
+  head = refAt code at (digits (e / 256)) ∷ []
+
+  abbrev tail : List Ref
+  tail = map (refAt code at) (second e)
+
   all : map (refAt code at) (unpacked e) ≡ inCode code at
   unfolding inCode
   all = ap (map (refAt code at)) is
@@ -56,21 +63,21 @@ module _ (code : List ℕ) (at e : ℕ) (is : unpacked e ≡ indices (tagAt code
     unfolding unpacked firstBad
     none z = ap (firstBad size) (rw z at all)
 
-    both : (e ≡ 0 → ⊥)
-        → firstBad size ((refAt code at (digits (e / 256)) ∷ []) ++ map (refAt code at) (second e)) ≡ firstBad size (inCode code at)
+    both : (e ≡ 0 → ⊥) → firstBad size (head ++ tail) ≡ firstBad size (inCode code at)
     unfolding unpacked
     both some = ap (firstBad size) (rw (ne-eqb e 0 some) at all)
 
-    module _ (some : e ≡ 0 → ⊥) {first : Checked} (found : numbered first ≡ firstBad size (refAt code at (digits (e / 256)) ∷ [])) where
+    module _ (some : e ≡ 0 → ⊥) {first : Checked} (found : numbered first ≡ firstBad size head) where
       pub first-bad : {index pool : ℕ} → first ≡ Bad index pool → numbered first ≡ firstBad size (inCode code at)
-      first-bad b = stops size (map (refAt code at) (second e)) (_ ∷ []) found b ∙ both some
+      first-bad b = stops size tail head found b ∙ both some
 
-      rest : first ≡ Fine → firstBad size (map (refAt code at) (second e)) ≡ firstBad size (inCode code at)
-      rest f = goes-on size (map (refAt code at) (second e)) (_ ∷ []) found f ∙ both some
+      rest : first ≡ Fine → firstBad size tail ≡ firstBad size (inCode code at)
+      rest f = goes-on size tail head found f ∙ both some
 
       pub no-second : first ≡ Fine → e % 256 ≡ 0 → fine ≡ firstBad size (inCode code at)
       unfolding firstBad
       no-second f z = rw z at (rest f)
 
-      pub a-second : first ≡ Fine → (e % 256 ≡ 0 → ⊥) → firstBad size (refAt code at (digits (e % 256)) ∷ []) ≡ firstBad size (inCode code at)
+      pub a-second : first ≡ Fine → (e % 256 ≡ 0 → ⊥)
+          → firstBad size (refAt code at (digits (e % 256)) ∷ []) ≡ firstBad size (inCode code at)
       a-second f more = rw (ne-eqb (e % 256) 0 more) at (rest f)

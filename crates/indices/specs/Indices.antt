@@ -114,14 +114,14 @@ firstBad size (r ∷ rs) = cond (ltb (r .index) (size (r .pool))) (firstBad size
 
 -- ---- what has to hold of the tables
 
--- a chain's steps, and a switch's cases, lie within their table
+-- the steps of a chain, and the cases of a switch, lie within their table
 abbrev pub StepsWithin : (chains steps : List ℕ) (chain : ℕ) → Type 0
 StepsWithin chains steps chain = chainAt chains chain .firstStep + chainAt chains chain .steps ≤ whole 4 steps
 
 abbrev pub CasesWithin : (switches cases : List ℕ) (switch : ℕ) → Type 0
 CasesWithin switches cases switch = switchAt switches switch .firstCase + switchAt switches switch .cases ≤ whole 2 cases
 
--- the sizes are the tables', and so it is with every chain and every switch
+-- the sizes are those of the tables, and every chain's steps and every switch's cases lie within theirs
 pub record Sound (sizes : Sizes) (t : Tables) : Type 0 where
   pub chains-counted : sizes .chains ≡ whole 7 (t .chains)
   pub switches-counted : sizes .switches ≡ whole 5 (t .switches)

@@ -53,8 +53,9 @@ pub fn check_indices(
 ) -> Checked
     requires { ⌜ 0 < widthAt (now code) at ⌝ }
     requires { ⌜ Sound sizes (tables (now chains) (now steps) (now switches) (now cases)) ⌝ }
-    ensures { λ r. ⌜ numbered r ≡ firstBad (sizeOf sizes)
-        (refs (tables (now (chains .entry)) (now (steps .entry)) (now (switches .entry)) (now (cases .entry))) (now (code .entry)) at) ⌝ }
+    ensures { λ r. ⌜ numbered r ≡ firstBad (sizeOf sizes) (refs
+        (tables (now (chains .entry)) (now (steps .entry)) (now (switches .entry)) (now (cases .entry)))
+        (now (code .entry)) at) ⌝ }
 {
     let own = fields::check_fields(code, at, sizes);
     if let Checked::Bad { .. } = own {

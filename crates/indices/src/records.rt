@@ -46,7 +46,7 @@ const CASES: usize = 1;
 
 const CASE_CONSTANT: usize = 1;
 
-// One name, whosever it is.
+// One name, of a root or of a step.
 fn check_name(name: u32, sizes: Sizes) -> Checked
     ensures { λ r. ⌜ numbered r ≡ firstBad (sizeOf sizes) (into names name ∷ []) ⌝ }
 {
@@ -77,7 +77,8 @@ fn check_tail(tail: u32, operator: u32, sizes: Sizes) -> Checked
 
 // The three names of a property.
 fn check_property(name: u32, getter: u32, setter: u32, sizes: Sizes) -> Checked
-    ensures { λ r. ⌜ numbered r ≡ firstBad (sizeOf sizes) (into names name ∷ into names getter ∷ into names setter ∷ []) ⌝ }
+    ensures { λ r. ⌜ numbered r ≡ firstBad (sizeOf sizes)
+        (into names name ∷ into names getter ∷ into names setter ∷ []) ⌝ }
 {
     let own = check_name(name, sizes);
     if let Checked::Bad { .. } = own {
@@ -108,7 +109,8 @@ fn check_step(steps: &[u32], step: usize, sizes: Sizes) -> Checked
 // So many steps from a first one on, up to the first bad reference.
 fn check_steps(steps: &[u32], first: u32, count: u32, sizes: Sizes) -> Checked
     requires { ⌜ first + count ≤ whole 4 (now steps) ⌝ }
-    ensures { λ r. ⌜ numbered r ≡ firstBad (sizeOf sizes) (flatMap stepRefs (entries (stepAt (now (steps .entry))) first count)) ⌝ }
+    ensures { λ r. ⌜ numbered r ≡ firstBad (sizeOf sizes)
+        (flatMap stepRefs (entries (stepAt (now (steps .entry))) first count)) ⌝ }
 {
     let from = first as usize;
     for step in from..from + count as usize {
@@ -125,7 +127,8 @@ fn check_steps(steps: &[u32], first: u32, count: u32, sizes: Sizes) -> Checked
 pub fn check_chain_indices(chains: &[u32], chain: usize, steps: &[u32], sizes: Sizes) -> Checked
     requires { ⌜ chain < whole 7 (now chains) ⌝ }
     requires { ⌜ StepsWithin (now chains) (now steps) chain ⌝ }
-    ensures { λ r. ⌜ numbered r ≡ firstBad (sizeOf sizes) (chainRefs (now (steps .entry)) (chainAt (now (chains .entry)) chain)) ⌝ }
+    ensures { λ r. ⌜ numbered r ≡ firstBad (sizeOf sizes)
+        (chainRefs (now (steps .entry)) (chainAt (now (chains .entry)) chain)) ⌝ }
 {
     let word = chain * CHAIN_WORDS;
     let root = check_root(chains[word], chains[word + ROOT_NAME], sizes);
@@ -159,7 +162,8 @@ fn check_case(cases: &[u32], case: usize, sizes: Sizes) -> Checked
 // So many cases from a first one on, up to the first bad reference.
 fn check_cases(cases: &[u32], first: u32, count: u32, sizes: Sizes) -> Checked
     requires { ⌜ first + count ≤ whole 2 (now cases) ⌝ }
-    ensures { λ r. ⌜ numbered r ≡ firstBad (sizeOf sizes) (flatMap caseRefs (entries (caseAt (now (cases .entry))) first count)) ⌝ }
+    ensures { λ r. ⌜ numbered r ≡ firstBad (sizeOf sizes)
+        (flatMap caseRefs (entries (caseAt (now (cases .entry))) first count)) ⌝ }
 {
     let from = first as usize;
     for case in from..from + count as usize {
@@ -175,7 +179,8 @@ fn check_cases(cases: &[u32], first: u32, count: u32, sizes: Sizes) -> Checked
 pub fn check_switch_indices(switches: &[u32], switch: usize, cases: &[u32], sizes: Sizes) -> Checked
     requires { ⌜ switch < whole 5 (now switches) ⌝ }
     requires { ⌜ CasesWithin (now switches) (now cases) switch ⌝ }
-    ensures { λ r. ⌜ numbered r ≡ firstBad (sizeOf sizes) (switchRefs (now (cases .entry)) (switchAt (now (switches .entry)) switch)) ⌝ }
+    ensures { λ r. ⌜ numbered r ≡ firstBad (sizeOf sizes)
+        (switchRefs (now (cases .entry)) (switchAt (now (switches .entry)) switch)) ⌝ }
 {
     let word = switch * SWITCH_WORDS;
     check_cases(cases, switches[word], switches[word + CASES], sizes)

@@ -50,6 +50,7 @@ module _ (chains steps switches cases ranges : List ℕ) where
   abbrev inSwitches : Told
   inSwitches = goodSwitches switches (whole 2 cases) (length ranges)
 
+  -- the first ragged table tells
   pub ragged-chains : ragged 7 chains ≡ true → badTable 1 (whole 7 chains) ≡ told
   unfolding firstBad wholeTable first
   ragged-chains e = simp e
@@ -68,6 +69,7 @@ module _ (chains steps switches cases ranges : List ℕ) where
   unfolding firstBad wholeTable first
   ragged-cases c s w e = simp (c, s, w, e)
 
+  -- past the four tests
   pub record NoneRagged : Type 0 where
     pub chains-whole : ragged 7 chains ≡ false
     pub steps-whole : ragged 4 steps ≡ false
@@ -79,6 +81,7 @@ module _ (chains steps switches cases ranges : List ℕ) where
   unfolding firstBad wholeTable first
   by-entries n = simp (n .chains-whole, n .steps-whole, n .switches-whole, n .cases-whole)
 
+  -- the first table with a bad entry tells
   pub in-chains : NoneRagged → {t : Told} → t ≡ inChains → 0 < t .kind → t ≡ told
   in-chains n e h = e ∙ sym (by-entries n ∙ refuses-here inChains _ (rw e at h))
 
@@ -122,6 +125,7 @@ module _ (chains steps switches cases ranges : List ℕ) where
     good : GoodTables chains steps switches cases ranges → t ≡ fine → Outcome t
     refused : {table entry : ℕ} → FirstIs table entry → t ≡ badTable table entry → Outcome t
 
+  -- which of them it is goes by the tests in their order
   all-whole : NoneRagged → AllWhole chains steps switches cases
   all-whole n = record {
     chains-whole = is-whole 7 chains (n .chains-whole);

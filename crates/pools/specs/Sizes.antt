@@ -10,7 +10,7 @@ use Rattle.pools.specs.declared.limits.Limits.{Limits}
 use Rattle.pools.specs.declared.limits.Limits.the-variants.{Kept, Exceeded}
 use Rattle.pools.specs.declared.limits.Sizes.{Sizes}
 
--- the most bytes of code, shut: only the comparison with the code's own list of limits looks at the number
+-- the most bytes of code, shut: no law looks at the number, only the proof that the code's own list has the same
 unfoldable pub maxCode : ℕ
 maxCode = 65536
 

@@ -1,6 +1,6 @@
-// The lent tables: how many words an entry of each has, whether there are few enough of everything, and whether each entry
-// is one. Every answer is fixed by the counts or the words, for any of them. What passes is what `indices` and `walk` build
-// on: each span that an entry names lies within its table. Which names and constants an entry may name is left to `indices`.
+// The lent pools, before anything reads them: few enough of everything (`limits`), and tables whose entries are whole and
+// good (`tables`). Every answer is fixed by the counts or the words, whatever they are. Who comes after may rely on it that
+// each span of an entry lies within its table. Which names and constants an entry may name is left to `indices`.
 pub mod limits;
 pub mod tables;
 

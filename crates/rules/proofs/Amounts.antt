@@ -8,8 +8,7 @@ use native.Mathlib.Nat.{mul-le-mul-right}
 use native.Mathlib.Omega.{arith}
 use borrow.Author.Tests.{ne-eqb}
 use lib.Dec.{T, leb, eqb, leb→le, eqb→eq}
-use lib.ListN.{getD, replicate}
-use Rattle.code.proofs.Table.{each}
+use lib.ListN.{getD}
 use Rattle.code.specs.Layout.{among, tagAt, countAt, indexAt}
 use Rattle.code.specs.Tags.{CHAIN}
 use Rattle.code.specs.Width.{widthAt}
@@ -21,7 +20,7 @@ use Rattle.rules.specs.Shapes.{Shape}
 use Rattle.rules.specs.There.{ChainEntry, ChainThere}
 use Rattle.rules.proofs.Lists.{zero≢one}
 use Rattle.rules.proofs.Operands.{tag-small}
-use Rattle.rules.proofs.Tests.{all, pass}
+use Rattle.rules.proofs.Tests.{pass-at}
 
 -- a chain that is there whole is in its table
 pub chain-entry-of : {code chains steps : List ℕ} {p : ℕ} → ChainThere code chains steps p → ChainEntry code chains p
@@ -39,16 +38,16 @@ module _ (code chains : List ℕ) (p : ℕ) where
   pub chain-acts : tagAt code p ≡ CHAIN → (k : ℕ) → k ≡ chainAt chains (indexAt code p) .operands
       → Acts code chains p (record { needs = k; pops = k; pushes = 1 })
   unfolding needs pops pushes operandsOf effect among
-  chain-acts e k h = record { needs-so-many = rw e (omega arith); pops-so-many = rw e (omega arith); pushes-so-many = rw (e, pushes) refl }
+  chain-acts e k h = record { needed = rw e (omega arith); popped = rw e (omega arith); pushed = rw (e, pushes) refl }
 
   -- any other's is made of its word and its count n
   pub word-acts : (tagAt code p ≡ CHAIN → ⊥) → (word : ℕ) → Shape (tagAt code p) word → (n : ℕ) → n ≡ countAt code p
       → Acts code chains p (record { needs = word % 4 + word / 4 % 4 * n; pops = word / 16 % 4 + word / 64 % 4 * n; pushes = word / 256 % 16 })
   unfolding needs pops pushes operandsOf
   word-acts e word s n h = record {
-    needs-so-many = rw (s .needs-fixed, s .needs-perN, h, ne-eqb (tagAt code p) CHAIN e) (omega arith);
-    pops-so-many = rw (s .pops-fixed, s .pops-perN, h, ne-eqb (tagAt code p) CHAIN e) (omega arith);
-    pushes-so-many = s .pushes;
+    needed = rw (s .needs-fixed, s .needs-perN, h, ne-eqb (tagAt code p) CHAIN e) (omega arith);
+    popped = rw (s .pops-fixed, s .pops-perN, h, ne-eqb (tagAt code p) CHAIN e) (omega arith);
+    pushed = s .pushes;
   }
 
 -- part by part, what is popped is at most what is needed; at most one is pushed, and none where control does not fall through
@@ -62,14 +61,10 @@ tests tag =
     ∷ (falls tag || eqb (effect tag .pushes) 0)
     ∷ []
 
-holds : ℕ → ℕ → Bool
-unfolding tests
-holds tag x = all (tests tag)
-
 module _ (code chains : List ℕ) (p : ℕ) (wide : 0 < widthAt code p) where
   passes : (k : ℕ) → T (getD (tests (tagAt code p)) k true)
-  unfolding holds
-  passes k = pass k (tests (tagAt code p)) (each holds (replicate 256 0) tt (tagAt code p) (tag-small code p wide))
+  unfolding tests
+  passes = pass-at tests tt (tagAt code p) (tag-small code p wide)
 
   -- so it is whatever n and k are
   pub pops-within-needs : pops code chains p ≤ needs code chains p

@@ -16,7 +16,7 @@ use Rattle.rules.specs.Shapes.{placeFrom}
 use Rattle.rules.proofs.Operands.{few-bytes, reach, count-there}
 
 -- the number at a place
-unfoldable pub counted : (place : ℕ) (code : List ℕ) (at : ℕ) → ℕ
+counted : (place : ℕ) (code : List ℕ) (at : ℕ) → ℕ
 counted place code at = cond (eqb place 0) 0 (cond (ltb place 8) (getD code (at + place) 0) (little 2 code (at + (place - 8))))
 
 module _ (code : List ℕ) (at : ℕ) where

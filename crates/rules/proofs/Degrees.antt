@@ -1,23 +1,24 @@
 -- Document 01's list of outgoing edges: "none for RETURN and THROW, 1 for JUMP, 2 for the branches, ITER_NEXT* and
 -- PUSH_HANDLER*, cases + ranges + 1 for SWITCH, else 1". The degree of the definition is that of the list.
 use mathlib.Core.Bool.{Bool, true, false, cond}
-use mathlib.Core.List.{[], _∷_}
+use mathlib.Core.List.{List, [], _∷_}
 use mathlib.Core.Path.{_≡_, refl}
 use Prim.Native.Nat.{ℕ, _+_, _<_}
 use native.Mathlib.Omega.{arith}
 use borrow.Author.Tests.{eqb-true}
 use lib.Dec.{eqb, eqb→eq}
-use lib.ListN.{length, replicate}
-use Rattle.code.proofs.Table.{each}
+use lib.ListN.{length, length-append, length-map}
 use Rattle.code.specs.Layout.{among, indexAt, targetAt}
 use Rattle.code.specs.Tags.{RETURN, THROW, SWITCH, JUMP, JUMP-IF-TRUE, JUMP-IF-FALSE, SKIP-IF-NOT-UNIT, ITER-NEXT, PUSH-HANDLER, ITER-NEXT-INDEXED, PUSH-HANDLER-VAR}
 use Rattle.code.specs.Width.{widthAt}
 use Rattle.pools.specs.Pools.{switchAt}
-use Rattle.rules.specs.Edges.{jumping, falls, armsOf, targetsOf, targets, degree}
+use Rattle.rules.specs.declared.Depths.{Depths}
+use Rattle.rules.specs.Edges.{jumping, falls, armsOf, targetsOf, targets, edges, degree}
 use Rattle.rules.specs.Script.{Script, tagOf}
 use Rattle.rules.proofs.Arms.{arms-length}
 use Rattle.rules.proofs.Operands.{tag-small}
 use Rattle.rules.proofs.Targets.{length-cond}
+use Rattle.rules.proofs.Tests.{pass-at}
 
 -- the list, where a SWITCH has so many arms
 unfoldable pub listed : (tag arms : ℕ) → ℕ
@@ -31,21 +32,31 @@ listed tag arms =
 summed : (tag arms : ℕ) → ℕ
 summed tag arms = cond (among tag jumping) 1 (cond (eqb tag SWITCH) arms 0) + cond (falls tag) 1 0
 
-agrees : ℕ → ℕ → Bool
+tests : ℕ → List Bool
 unfolding summed listed among falls
-agrees tag x = eqb (summed tag 0) (listed tag 0)
+tests tag = eqb (summed tag 0) (listed tag 0) ∷ []
 
 same : (tag : ℕ) → tag < 256 → (arms : ℕ) → summed tag arms ≡ listed tag arms
-unfolding agrees
+unfolding tests
 same tag h arms = go (eqb tag SWITCH) refl
   where
     go : (b : Bool) → eqb tag SWITCH ≡ b → summed tag arms ≡ listed tag arms
     go true e = rw (eqb-true tag SWITCH e) (omega arith)
     go false e =
-        let zero : summed tag 0 ≡ listed tag 0 = eqb→eq (summed tag 0) (listed tag 0) (each agrees (replicate 256 0) tt tag h) in
+        let zero : summed tag 0 ≡ listed tag 0 = eqb→eq (summed tag 0) (listed tag 0) (pass-at tests tt tag h 0) in
         rw e (rw e at zero)
 
+-- where control falls through, there is one edge more
+fallen : {A : Type 0} (b : Bool) (x : A) → length (cond b (x ∷ []) []) ≡ cond b 1 0
+fallen true x = refl
+fallen false x = refl
+
 module _ (S : Script) (p : ℕ) where
+  -- the degree is the number of edges
+  pub edges-length : (d : Depths) → length (edges S p d) ≡ degree S p
+  unfolding edges degree
+  edges-length d = simp (length-append, length-map, fallen)
+
   -- a SWITCH's arms
   abbrev pub arms : ℕ
   arms = switchAt (S .pools .switches) (indexAt (S .code) p) .cases + switchAt (S .pools .switches) (indexAt (S .code) p) .ranges + 1

@@ -17,6 +17,7 @@ use Rattle.rules.specs.Rights.{THIS, INDEXING, PROPERTY, METHOD, MODULE,
 use Rattle.rules.specs.There.{qualifiable, NameThere, ChainWhole, ChainThere}
 use Rattle.rules.proofs.Operands.{index-there, chain-there}
 
+-- the flag of a name
 module _ (names : List ℕ) (i : ℕ) where
   pub plain-name : getD names i 0 ≡ 0 → 0 ≡ ofName names i
   unfolding ofName
@@ -26,6 +27,7 @@ module _ (names : List ℕ) (i : ℕ) where
   unfolding ofName
   qualified-name n = rw (ne-eqb (getD names i 0) 0 n)
 
+-- the kind of a step
 module _ (steps : List ℕ) (i : ℕ) where
   pub index-step : getD steps (i * 4) 0 ≡ 0 → INDEXING ≡ ofStep (stepAt steps i)
   unfolding ofStep stepAt

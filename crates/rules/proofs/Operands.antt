@@ -5,9 +5,8 @@ use mathlib.Core.Path.{_≡_, refl}
 use Prim.Native.Nat.{ℕ, _+_, _-_, _≤_, _<_}
 use native.Mathlib.Omega.{arith}
 use lib.Dec.{T, eqb, leb, ltb, leb→le}
-use lib.ListN.{length, getD, replicate}
+use lib.ListN.{length, getD}
 use Rattle.code.proofs.Layouts.{tag-byte, sizes}
-use Rattle.code.proofs.Table.{each}
 use Rattle.code.proofs.Widths.{Wide, width-there}
 use Rattle.code.specs.Layout.{layout, among, tagAt}
 use Rattle.code.specs.Tags.{CHAIN, SWITCH}
@@ -15,7 +14,7 @@ use Rattle.code.specs.Width.{widthOf, widthAt}
 use Rattle.rules.specs.Edges.{jumping}
 use Rattle.rules.specs.Shapes.{placeFrom}
 use Rattle.rules.specs.There.{qualifiable}
-use Rattle.rules.proofs.Tests.{all, pass}
+use Rattle.rules.proofs.Tests.{pass-at}
 
 -- how far a count at a place reaches from the tag
 abbrev pub reach : ℕ → ℕ
@@ -25,21 +24,17 @@ reach place = cond (eqb place 0) 0 (cond (ltb place 8) (place + 1) (place - 8 + 
 abbrev pub naming : List ℕ
 naming = CHAIN ∷ SWITCH ∷ qualifiable
 
-module _ (tag : ℕ) where
-  -- the fields are few; count, target and index lie inside the width
-  tests : List Bool
-  unfolding layout among placeFrom sizes widthOf
-  tests =
-      leb (1 + sizes (layout tag)) 8
-      ∷ leb (reach (placeFrom (layout tag) 1)) (widthOf tag)
-      ∷ leb (cond (among tag jumping) 5 0) (widthOf tag)
-      ∷ leb (cond (among tag naming) 3 0) (widthOf tag)
-      ∷ []
+-- the fields are few; count, target and index lie inside the width
+tests : ℕ → List Bool
+unfolding layout among placeFrom sizes widthOf
+tests tag =
+    leb (1 + sizes (layout tag)) 8
+    ∷ leb (reach (placeFrom (layout tag) 1)) (widthOf tag)
+    ∷ leb (cond (among tag jumping) 5 0) (widthOf tag)
+    ∷ leb (cond (among tag naming) 3 0) (widthOf tag)
+    ∷ []
 
-holds : ℕ → ℕ → Bool
-unfolding tests
-holds tag x = all (tests tag)
-
+-- what the test tells of the instruction at an offset that has its width
 module _ (code : List ℕ) (at : ℕ) (wide : 0 < widthAt code at) where
   there : Wide widthOf code at (widthAt code at)
   there = width-there widthOf code at wide
@@ -51,8 +46,8 @@ module _ (code : List ℕ) (at : ℕ) (wide : 0 < widthAt code at) where
   tag-small = tag-byte (tagAt code at) (omega (arith, there .tag, there .some))
 
   passes : (k : ℕ) → T (getD (tests (tagAt code at)) k true)
-  unfolding holds
-  passes k = pass k (tests (tagAt code at)) (each holds (replicate 256 0) tt (tagAt code at) tag-small)
+  unfolding tests
+  passes = pass-at tests tt (tagAt code at) tag-small
 
   pub few-bytes : 1 + sizes (layout (tagAt code at)) ≤ 8
   unfolding tests

@@ -1,7 +1,7 @@
 -- Paths from a chunk's entry, and the operand depths on them. Document 01, "What comes back": "the starts on some path from
 -- the entry; 1 + the edges out of those". Nothing here knows how a chunk is walked.
 use mathlib.Core.Bool.{cond}
-use mathlib.Core.List.{[], _∷_}
+use mathlib.Core.List.{_∷_}
 use mathlib.Core.Path.{_≡_}
 use Prim.Native.Nat.{ℕ, _≤_}
 use lib.Dec.{eqb}

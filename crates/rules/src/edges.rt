@@ -24,7 +24,7 @@ pub fn falls(tag: u8) -> bool
     shapes::flow_of(tag) < shapes::JUMP
 }
 
-// And nowhere else.
+// Control goes on to the next instruction after this tag, and nowhere else.
 pub fn plain(tag: u8) -> bool
     ensures { λ r. ⌜ r ≡ plain tag ⌝ }
 {
@@ -93,8 +93,8 @@ pub fn after(tag: u8, effect: Effect, d: Depths) -> Depths
     }
 }
 
-// The depths at each of its targets. An iterator that ends is dropped, and pushes nothing; a handler finds the operands
-// from before it.
+// The depths at each of an instruction's targets, from those before it and those after it. An iterator that has ended is
+// dropped, and its exit finds nothing pushed; a handler finds the operands from before it.
 pub fn jumped(tag: u8, before: Depths, after: Depths) -> Depths
     requires { ⌜ Held tag before ⌝ }
     ensures { λ r. ⌜ r ≡ jumpedOf tag before after ⌝ }
@@ -136,7 +136,7 @@ pub fn target_count(code: &[u8], at: usize, switches: &[u32]) -> u64
     0
 }
 
-// How many edges lead out of it: one to each target, and one to the next instruction where control falls through.
+// How many edges lead out of the instruction at an offset: one to each target, and one to the next instruction where control falls through.
 pub fn edge_count(code: &[u8], at: usize, switches: &[u32]) -> u64
     requires { ⌜ 0 < widthAt (now code) at ⌝ }
     requires { ⌜ SwitchEntry (now code) (now switches) at ⌝ }
@@ -151,7 +151,7 @@ pub fn edge_count(code: &[u8], at: usize, switches: &[u32]) -> u64
     }
 }
 
-// The arm of this number of a switch: cases, ranges, default.
+// The arm of this number of a switch, counted from 0: cases, ranges, default.
 fn arm(switches: &[u32], cases: &[u32], ranges: &[u32], i: usize, k: usize) -> u32
     requires { ⌜ SwitchWhole (now switches) (now cases) (now ranges) i ⌝ }
     requires { ⌜ k < length (armsOf (now cases) (now ranges) (switchAt (now switches) i)) ⌝ }
@@ -172,7 +172,7 @@ fn arm(switches: &[u32], cases: &[u32], ranges: &[u32], i: usize, k: usize) -> u
     switches[words + 4]
 }
 
-// The target of this number.
+// The target of this number, counted from 0.
 pub fn jump_target(
     code: &[u8],
     at: usize,

@@ -33,6 +33,7 @@ pub fn effect(code: &[u8], at: usize, chains: &[u32]) -> Effect
     ensures { λ r. ⌜ Acts (now (code .entry)) (now (chains .entry)) at r ⌝ }
 {
     let tag = code[at];
+    // A CHAIN goes by the operands k of its entry, any other instruction by its count n.
     if tag == tag::CHAIN {
         let i = code::read_u16(code, at + 1) as usize;
         let k = chains[i * CHAIN_WORDS + 2];

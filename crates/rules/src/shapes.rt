@@ -4,29 +4,25 @@
 // is none; and its flow, below. A CHAIN's operands k stand in its own table, and not here.
 ghost use Rattle.rules.specs.Shapes.{Shape, Flow};
 
-// How control goes on, and the stacks of iterators and handlers. 0: to the next instruction, both as they were.
-// The flows after 0 are in such an order that each group the rules speak of is a run of them.
+// How control goes on, and what becomes of iterators and handlers. The groups that the rules speak of are runs of these
+// numbers. 0: control goes on to the next instruction, with the iterators and handlers as they were.
 pub const ITER_INIT: u32 = 1;
 
 pub const POP_HANDLER: u32 = 2;
 
+// Up to here control goes to the next instruction and nowhere else.
 pub const ITER_DROP: u32 = 3;
 
-// Up to here control goes on to the next instruction and nowhere else.
 pub const ITER_NEXT: u32 = 4;
 
 pub const PUSH_HANDLER: u32 = 5;
 
-pub const BRANCH: u32 = 6;
-
-// Up to here it goes on to the next instruction.
+// Up to 6, the branches, it goes to the next instruction; from 4 to 7 it has the target that stands in the code.
 pub const JUMP: u32 = 7;
 
 pub const SWITCH: u32 = 8;
 
-// RETURN and THROW.
-pub const END: u32 = 9;
-
+// The words. The flow 9 is that of RETURN and THROW.
 const SHAPES: [u32; 256] = [
     0,
     0x00100, // UNIT

@@ -43,7 +43,8 @@ enum-told c = search needs
 returns-2 : tie.Need-returns-2
 returns-2 c =
     let some = c .before .before .before in
-    first-bad _ _ _ (some .before .fields-of .ensures) _ (some .if1 .left) (c .before .before .check-field .ensures) (c .enum-told .given .1)
+    first-bad _ _ _ (some .before .fields-of .ensures) _ (some .if1 .left) (c .before .before .check-field .ensures)
+    (c .enum-told .given .1)
 
 enum-told-2 : tie.Need-enum-told-2
 enum-told-2 c = search needs
@@ -59,14 +60,15 @@ check-field-requires-2 : tie.Need-check-field-requires-2
 check-field-requires-2 c κs =
     let some = c .before .before .before .before in
     let entry = some .before in
-    second-within _ _ _ (entry .fields-of .ensures) (entry .before .before .before .pre) (byte entry) (some .if1 .left) (c .if2 .left)
+    second-within _ _ _ (entry .fields-of .ensures) (entry .before .before .before .pre) (byte entry) (some .if1 .left)
+    (c .if2 .left)
 
 returns-4 : tie.Need-returns-4
 returns-4 c =
     let some = c .before .before .before .before .before in
     c .check-field2 .ensures
-    ∙ a-second _ _ _ (some .before .fields-of .ensures) _ (some .if1 .left) (c .before .before .before .before .check-field .ensures)
-    (c .before .before .enum-told2 .given .1) (c .before .if2 .left)
+    ∙ a-second _ _ _ (some .before .fields-of .ensures) _ (some .if1 .left)
+    (c .before .before .before .before .check-field .ensures) (c .before .before .enum-told2 .given .1) (c .before .if2 .left)
 
 pub check-fields-spec : {M : Type 1} → statement M
 check-fields-spec =

@@ -30,7 +30,8 @@ enum-told c = search needs
 returns : tie.Need-returns Inv-loop μ-loop
 returns c =
     let here = c .before .before .before in
-    bad-here _ _ _ (here .before .loop .inv) (here .loop-test .taken) (c .before .before .check-case .ensures) (c .enum-told .given .1)
+    bad-here _ _ _ (here .before .loop .inv) (here .loop-test .taken) (c .before .before .check-case .ensures)
+    (c .enum-told .given .1)
 
 enum-told-2 : tie.Need-enum-told-2 Inv-loop μ-loop
 enum-told-2 c = search needs
@@ -44,7 +45,8 @@ loop-less c = omega arith
 loop-again : tie.Need-loop-again Inv-loop μ-loop
 loop-again c =
     let here = c .before .before .before in
-    next _ _ _ (here .before .loop .inv) (here .loop-test .taken) (c .before .before .check-case .ensures) (c .enum-told2 .given .1)
+    next _ _ _ (here .before .loop .inv) (here .loop-test .taken) (c .before .before .check-case .ensures)
+    (c .enum-told2 .given .1)
 
 returns-2 : tie.Need-returns-2 Inv-loop μ-loop
 unfolding numbered

@@ -25,7 +25,9 @@ returns : tie.Need-returns
 returns c = count-none (placed (c .before)) (c .if1 .taken)
 
 add-result : tie.Need-add-result
-add-result c = omega (arith, byte-there (placed (c .before .before)) (c .before .if1 .left) (c .if2 .taken))
+add-result c =
+    let start = c .before .before .before .before .before in
+    omega (arith, tag-there (start .args .code .now) (start .args .at) (start .pre))
 
 shared-slice-read-result : tie.Need-shared-slice-read-result
 shared-slice-read-result c = byte-there (placed (c .before .before .before)) (c .before .before .if1 .left) (c .before .if2 .taken)

@@ -26,10 +26,10 @@ loop-less : tie.Need-loop-less Inv-loop μ-loop
 loop-less c = omega arith
 
 loop-again : tie.Need-loop-again Inv-loop μ-loop
-loop-again c = one-joined _ _ _ (c .before .before .loop .inv) (c .before .loop-test .taken) _ (c .step-caps .ensures)
+loop-again c = one-joined _ _ _ (c .before .before .loop .inv) (omega arith) _ (c .step-caps .ensures)
 
 returns : tie.Need-returns Inv-loop μ-loop
-returns c = all-joined _ _ _ (c .before .loop .inv) (c .loop-test .left)
+returns c = all-joined _ _ _ (c .before .loop .inv) (omega arith)
 
 pub steps-caps-spec : {M : Type 1} → statement M
 steps-caps-spec =
