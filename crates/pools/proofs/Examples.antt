@@ -20,7 +20,7 @@ unfolding firstBad wholeTable ragged first firstFrom entries switchAt badSwitch
 at-the-end = refl
 
 -- and none from past the end on is bad, though it names nothing
-past-the-end : firstBad [] [] (naming 2 0) (0 ∷ 0 ∷ []) [] ≡ badTable 3 0
+past-the-end : firstBad [] [] (naming 2 0) (0 ∷ 0 ∷ []) [] ≡ record { kind = 2; p = 3; q = 0 }
 unfolding firstBad wholeTable ragged first firstFrom entries switchAt badSwitch
 past-the-end = refl
 
@@ -74,7 +74,7 @@ sized n = record {
 }
 
 -- of several limits that are exceeded the first in the order is told
-chains-before-chunks : tooLarge (sized 65536) ≡ 9
+chains-before-chunks : firstExceeded (sized 65536) ≡ record { kind = 1; p = 9; q = 0 }
 unfolding firstExceeded limits firstFrom maxCode
 chains-before-chunks = refl
 

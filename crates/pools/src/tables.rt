@@ -1,6 +1,6 @@
-// The tables: no word of one is left over, and each entry is one. Ragged tables are told before any entry, and of the
+// The tables: no word of one is left over, and each entry is good. Ragged tables are told before any entry, and of the
 // entries the first bad one, by the table that it stands in and not by the one that it reaches past.
-// A case entry and a range have nothing to test here: their words are looked at where a switch is reached.
+// A case and a range have nothing to test here: their words are tested where an instruction names their switch.
 ghost use mathlib.Core.Path.{_≡_};
 ghost use Prim.Native.Nat.{_<_};
 ghost use Rattle.pools.specs.Pools.{whole, chainAt, stepAt, switchAt};

@@ -1,18 +1,9 @@
 -- The answer in document 01's numbers: kind, chunk, at, p, q and three counts. Document 01, "What comes back": "`at` is an
 -- offset for 5, 6, 9 to 12, 15, 16 and a walk's 4; unused are 0", and the table of kinds.
 use Prim.Native.Nat.{ℕ}
+use Rattle.rules.specs.declared.verdict.Verdict.{Verdict}
 use Rattle.rules.specs.declared.Answer.{Answer}
 use Rattle.rules.specs.declared.Answer.the-variants.{Accepted, TooLarge, BadTable, NoRoom, MissingCaps, Undecodable, BadIndex, ChunkOutOfRange, Misaligned, JumpOutOfRange, JumpIntoAnInstruction, DepthConflict, Underflow, FallsOffTheEnd, StackExceedsDeclared, IteratorUnderflow, HandlerUnderflow}
-
-pub record Verdict : Type 0 where
-  pub kind : ℕ
-  pub chunk : ℕ
-  pub at : ℕ
-  pub p : ℕ
-  pub q : ℕ
-  pub instructions : ℕ
-  pub reached : ℕ
-  pub taken : ℕ
 
 -- the chunk of an answer that is about none: before the chunks, and on acceptance
 abbrev pub noChunk : ℕ

@@ -5,7 +5,8 @@ use Prim.Native.Nat.{ℕ}
 use lib.ListN.{length}
 use Rattle.listing.specs.Listing.{starts}
 use Rattle.pools.specs.Pools.{Pools}
-use Rattle.rules.specs.Answer.{Verdict, refusal, noChunk, numbered}
+use Rattle.rules.specs.Answer.{refusal, noChunk, numbered}
+use Rattle.rules.specs.declared.verdict.Verdict.{Verdict}
 use Rattle.rules.specs.Chunk.{Judged, passes, fails, judgeChunk}
 use Rattle.rules.specs.Script.{Span}
 

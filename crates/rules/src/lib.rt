@@ -6,6 +6,7 @@ pub mod edges;
 pub mod effects;
 pub mod rights;
 mod shapes;
+pub mod verdict;
 
 // How many operands, iterators and handlers there are at a place.
 pub struct Depths {

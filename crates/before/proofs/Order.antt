@@ -1,0 +1,121 @@
+-- The tests in document 01's order: what holds once those before any store have passed, and what is told and held at each way
+-- out of those after it.
+use mathlib.Core.Bool.{Bool, true, false, cond}
+use mathlib.Core.List.{List}
+use mathlib.Core.Option.{none, some}
+use mathlib.Core.Path.{_≡_, refl, ap, _∙_}
+use Prim.Native.Nat.{ℕ, _+_, _/_, _≤_}
+use native.Mathlib.Omega.{arith}
+use borrow.Author.Tests.{eqb-true, ltb-false}
+use lib.Dec.{ltb, eqb}
+use lib.ListN.{length, replicate, length-replicate}
+use Rattle.indices.specs.Indices.{Sound, tables}
+use Rattle.indices.specs.declared.Sizes as counted
+use Rattle.listing.specs.Listing.{starts}
+use Rattle.marks.proofs.Laws.{length-all}
+use Rattle.pools.specs.Good.{GoodTables}
+use Rattle.pools.specs.Pools.{whole}
+use Rattle.pools.specs.Sizes.{firstExceeded, Within}
+use Rattle.pools.specs.Tables.{firstBad}
+use Rattle.pools.specs.Told.{Told}
+use Rattle.pools.specs.declared.limits.Sizes.{Sizes}
+use Rattle.pools.proofs.First.{Upward, none as never, first-at}
+use Rattle.pools.proofs.LimitLaws as limit
+use Rattle.pools.proofs.TableLaws.{passed-good}
+use Rattle.rules.specs.declared.Answer.{Answer}
+use Rattle.rules.specs.declared.Answer.the-variants.{TooLarge, BadTable, NoRoom}
+use Rattle.before.specs.Before.{Test, told, limitsTest, tablesTest, roomTest, earlyTests}
+use Rattle.before.specs.Memory.{marksOf, marksFrom}
+use Rattle.before.specs.declared.Outcome.{Outcome}
+use Rattle.before.specs.declared.Outcome.the-variants.{Passed, Refused}
+use Rattle.before.proofs.Tests.{both, not-refused}
+
+-- ---- what each test before any store establishes
+
+within-limits : (sizes : Sizes) → limitsTest sizes ≡ none → Within sizes
+unfolding limitsTest
+within-limits sizes e = go (limit.outcome sizes) (eqb-true _ 0 (not-refused (eqb (firstExceeded sizes .kind) 0) (TooLarge (firstExceeded sizes .p)) e))
+  where
+    go : Upward limit.overTold (limit.overAt (limit.counts sizes)) limit.how-many (firstExceeded sizes) → firstExceeded sizes .kind ≡ 0 → Within sizes
+    go (never each q) z = limit.kept-within sizes (ap (λ (t : Told). t .p) q)
+    go (first-at i at q) z = absurd (omega (arith, ap (λ (t : Told). t .kind) q))
+
+good-tables : (chains steps switches cases ranges : List ℕ) → tablesTest chains steps switches cases ranges ≡ none
+    → GoodTables chains steps switches cases ranges
+unfolding tablesTest
+good-tables chains steps switches cases ranges e =
+    let found = firstBad chains steps switches cases ranges in
+    passed-good chains steps switches cases ranges (eqb-true _ 0 (not-refused (eqb (found .kind) 0) (BadTable (found .p) (found .q)) e))
+
+enough : (needed lent buffer : ℕ) → roomTest needed lent buffer ≡ none → needed ≤ lent
+unfolding roomTest
+enough needed lent buffer e = go (ltb lent needed) refl e
+  where
+    go : (b : Bool) → ltb lent needed ≡ b → cond b (some (NoRoom needed buffer)) none ≡ none → needed ≤ lent
+    go true p q = let no : _≡_ {A = ℕ} 0 1 = cc in absurd (omega arith)
+    go false p q = ltb-false lent needed p
+
+module _ (sizes : Sizes) (chains steps switches cases ranges : List ℕ) (marks heights : ℕ) where
+  pub record Opened : Type 0 where
+    pub kept : Within sizes
+    pub good : GoodTables chains steps switches cases ranges
+    pub marks-lent : sizes .code / 64 + 1 ≤ marks
+    pub heights-lent : sizes .chunks ≤ heights
+
+  pub opened : earlyTests sizes chains steps switches cases ranges marks heights ≡ none → Opened
+  unfolding earlyTests
+  opened e =
+      let limits = both _ _ e in
+      let tables = both _ _ (limits .others) in
+      let room = both _ _ (tables .others) in
+      let rest = both _ _ (room .others) in
+      record {
+        kept = within-limits sizes (limits .this);
+        good = good-tables chains steps switches cases ranges (tables .this);
+        marks-lent = enough _ marks 1 (room .this);
+        heights-lent = enough _ heights 2 (rest .this);
+      }
+
+-- so the tables are what the check of indices asks for, where the sizes are theirs
+pub sound : (sizes : counted.Sizes) {chains steps switches cases ranges : List ℕ} → sizes .chains ≡ whole 7 chains
+    → sizes .switches ≡ whole 5 switches → GoodTables chains steps switches cases ranges → Sound sizes (tables chains steps switches cases)
+sound sizes c s g = record {
+  chains-counted = c;
+  switches-counted = s;
+  steps-within = λ i h. g .good-chains i h .within;
+  cases-within = λ i h. g .good-switches i h .cases-within;
+}
+
+-- ---- what marks hold at each way out
+
+-- cleared, after a refusal
+pub zeroed : {r : Outcome} {answer : Answer} {words : List ℕ} (code : List ℕ) (n : ℕ) → r ≡ Refused answer → words ≡ replicate n 0
+    → words ≡ marksOf code (told r) n
+unfolding told marksOf
+zeroed code n e z = rw e z
+
+-- and cleared once more, after a pass
+pub cleared-again : {words after : List ℕ} (code : List ℕ) (test : Test) (n : ℕ) → words ≡ marksOf code test n
+    → after ≡ replicate (length words) 0 → after ≡ replicate n 0
+unfolding marksOf
+cleared-again code test n m z = z ∙ ap (λ (k : ℕ). replicate k 0) (ap length m ∙ as-many test)
+  where
+    as-many : (t : Test) → length (marksOf code t n) ≡ n
+    as-many none = length-all (replicate n 0) (starts code) ∙ length-replicate n 0
+    as-many (some answer) = length-replicate n 0
+
+-- the same after the same outcome
+pub as-held : {r s : Outcome} {words : List ℕ} (code : List ℕ) (n : ℕ) → r ≡ s → words ≡ marksOf code (told r) n → words ≡ marksOf code (told s) n
+as-held code n e m = m ∙ ap (λ (o : Outcome). marksOf code (told o) n) e
+
+-- untouched, after a refusal before any store
+pub untouched : {r : Outcome} {answer : Answer} {early : Test} → told r ≡ early → r ≡ Refused answer → (late : Test) (code before : List ℕ)
+    → before ≡ marksFrom early late code before
+unfolding told marksFrom
+untouched e p late code before = rw (← e, p)
+
+-- and otherwise what the later tests leave
+pub touched : {r : Outcome} {early : Test} → told r ≡ early → r ≡ Passed → (code before : List ℕ) (s : Outcome) {late : Test} {after : List ℕ}
+    → told s ≡ late → after ≡ marksOf code (told s) (length before) → after ≡ marksFrom early late code before
+unfolding told marksFrom
+touched e p code before s l m = rw (← e, p, ← l) m

@@ -1,0 +1,5 @@
+-- The definitions that contracts and laws cite.
+pub mod Input
+pub mod Before
+pub mod Pass
+pub mod Memory
