@@ -693,7 +693,7 @@ pub fn edge_count(tag: u8, code: &[u8], at: usize, input: &Input) -> u64 {
     }
 }
 
-/// Whether an instruction starts at `at`, by the bits of pass one.
+/// Is the bit of this offset set among the starts? Past the words none is.
 fn starts_at(starts: &[u64], at: usize) -> bool {
     let word = starts.get(at / 64);
     word.is_some_and(|bits| bits >> (at % 64) & 1 == 1)

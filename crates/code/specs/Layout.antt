@@ -100,7 +100,7 @@ indicesFrom (slot ∷ fields) at = indicesFrom fields (at + 2)
 abbrev pub indices : ℕ → List Index
 indices tag = indicesFrom (layout tag) 1
 
--- of the instruction at an offset: its tag, its count n, its jump target, and the number in its first field of two bytes
+-- of the instruction at an offset: its tag, its count n, its jump target, and the index in its first two operand bytes
 abbrev pub tagAt : List ℕ → ℕ → ℕ
 tagAt code at = getD code at 0
 

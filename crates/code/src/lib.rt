@@ -9,7 +9,7 @@ ghost use Rattle.code.specs.Width.{numbered, toldAt, widthOf};
 
 pub mod tag;
 
-// How wide each tag's instruction is, and 0 for a byte that is no tag.
+// The width of each tag, by its number: 0 marks a byte that is none.
 const WIDTHS: [u8; 256] = [
     0,
     1, // UNIT
@@ -297,7 +297,7 @@ pub fn width_of(tag: u8) -> usize
     WIDTHS[t] as usize
 }
 
-// The width of the instruction at an offset. An instruction whose operands are cut off is none.
+// What stands at an offset. Where the code ends before the operands do, no instruction stands there.
 pub fn width_at(code: &[u8], at: usize) -> Width
     ensures { λ r. ⌜ numbered r ≡ toldAt (now (code .entry)) at ⌝ }
 {

@@ -10,6 +10,8 @@ use lib.Dec.{ltb}
 use lib.ListN.{length}
 use Rattle.code.specs.Width.{widthBy}
 use Rattle.code.proofs.Widths.{width-there}
+use Rattle.marks.specs.Marks.{Rising, empty, next as then}
+use Rattle.marks.proofs.Counts.{rising-lower, rising-length}
 use Rattle.listing.specs.Listing.{startsBefore, Start, next}
 use Rattle.listing.proofs.Starts.{start-wide, start-apart, start-follows}
 use Rattle.listing.proofs.WalkLaws.{Within, walk-on, walk-stop, some-or-none, from-end}
@@ -107,3 +109,28 @@ module _ (table : ℕ → ℕ) (code : List ℕ) (end : ℕ) where
           go (inr k) (inr h) =
               let b = rest (rw (u .whole) (next s h)) k in
               record { start = b .start; from-on = omega (arith, b .from-on); before = b .before }
+
+  -- they rise, and none is past the code, so there are no more of them than bytes
+  before-rising : (at : ℕ) → Rising at (startsBefore table code end at)
+  before-rising =
+      from-end cut-within (λ at. Rising at (startsBefore table code end at)) (λ at e. rw (before-stop at e) empty)
+      (λ at c r. rw (before-on at c) (then {from = at} {at = at} (omega arith) (rising-lower (omega arith) r)))
+
+  before-code : (at p : ℕ) → List·Memᴰ p (startsBefore table code end at) → p < length code
+  before-code = from-end cut-within Inside stops goes
+    where
+      Inside : ℕ → Type 0
+      Inside at = (p : ℕ) → List·Memᴰ p (startsBefore table code end at) → p < length code
+
+      stops : (at : ℕ) → cut at ≡ 0 → Inside at
+      stops at e p m = absurd (List·Memᴰ·not-nil (rw (before-stop at e) at m))
+
+      goes : (at : ℕ) → 0 < cut at → Inside (at + cut at) → Inside at
+      goes at c rest p m = go (List·Memᴰ·cases-cons (rw (before-on at c) at m))
+        where
+          go : (p ≡ at) ⊎ List·Memᴰ p (startsBefore table code end (at + cut at)) → p < length code
+          go (inl e) = omega (arith, cut-within .within at c)
+          go (inr k) = rest p k
+
+  pub before-few : (at : ℕ) → length (startsBefore table code end at) ≤ length code
+  before-few at = omega (arith, rising-length (startsBefore table code end at) (length code) (before-rising at) (before-code at))

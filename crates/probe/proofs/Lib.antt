@@ -1,1 +1,4 @@
 pub mod Across
+pub mod Ready
+pub mod Found
+pub mod Held

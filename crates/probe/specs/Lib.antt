@@ -1,1 +1,4 @@
 pub mod Same
+pub mod Instruction
+pub mod Depths
+pub mod Before

@@ -12,6 +12,11 @@ use code::Number32;
 use code::Width;
 use listing::Listed;
 
+pub mod prepared;
+pub mod depths;
+mod entries;
+pub mod instruction;
+
 // An answer in numbers: which case it is, and its value.
 #[repr(C)]
 pub struct Told {

@@ -11,20 +11,22 @@ use native.Mathlib.Omega.{arith}
 use borrow.Author.Tests.{ltb-true, ltb-false, le-ltb}
 use lib.Dec.{ltb}
 use lib.ListN.{length}
+use Rattle.code.specs.Width.{widthOf}
+use Rattle.listing.proofs.Before.{before-few}
 use Rattle.rules.specs.declared.Answer.{Answer}
 use Rattle.rules.specs.declared.Answer.the-variants.{StackExceedsDeclared}
 use Rattle.rules.specs.declared.Depths.{Depths}
-use Rattle.rules.specs.Chunk.{Judged, passes, fails, measured, walked, judgeChunk, BeforeWalk}
+use Rattle.rules.specs.Chunk.{Judged, passes, fails, measured, walked, judgeChunk, Accepted, redeclared, BeforeWalk}
 use Rattle.rules.specs.Depths.{Item}
 use Rattle.rules.specs.Edges.{T, E, degree, chunkStarts}
 use Rattle.rules.specs.Measures.{Measures}
 use Rattle.rules.specs.Paths.{DepthOnPath, at, just-after}
-use Rattle.rules.specs.Refusals.{Real}
+use Rattle.rules.specs.Refusals.{Real, Exceeds}
 use Rattle.rules.specs.Rule.{rule, judge, machine}
 use Rattle.rules.specs.Script.{Script, Span}
 use Rattle.rules.specs.Walk.{Book, Run, accepted, refused, unfinished, Log, log, walk}
 use Rattle.rules.specs.Writing.{Writing}
-use Rattle.rules.proofs.Ends.{Bounded, ends, unfinished-bounded}
+use Rattle.rules.proofs.Ends.{Bounded, ends, unfinished-bounded, accepted-bounded}
 use Rattle.rules.proofs.Exactly.{Accepts, exactly}
 use Rattle.rules.proofs.Keeps.{keeps-laws}
 use Rattle.rules.proofs.Laws.{Laws}
@@ -34,13 +36,6 @@ use Rattle.rules.proofs.Inside.{inside, outside}
 use Rattle.rules.proofs.Paths as machine
 use Rattle.rules.proofs.Refusals.{real}
 use Rattle.rules.proofs.Ties.{agrees, path-of, reached-of, written-reached, writing-of, written-of, real-of}
-
--- a chunk is accepted, with its height and its two counts
-pub record Accepted (S : Script) (span : Span) : Type 0 where
-  pub height : ℕ
-  pub reached : ℕ
-  pub taken : ℕ
-  pub so : walked S span ≡ passes height reached taken
 
 module _ (S : Script) (span : Span) {records work : ℕ} (B : BeforeWalk S span records work) where
   laws : Laws (machine S span) (degree S) (chunkStarts S span)
@@ -59,6 +54,10 @@ module _ (S : Script) (span : Span) {records work : ℕ} (B : BeforeWalk S span 
       → Bounded (E S span) (length (chunkStarts S span)) w b
   unfolding E
   walk-bounded n e = unfinished-bounded (machine S span) laws n e
+
+  -- there are no more instructions in the chunk than bytes in the code, so each depth fits a word
+  pub few-instructions : length (chunkStarts S span) ≤ length (S .code)
+  few-instructions = before-few widthOf (S .code) (span .end) (span .entry)
 
   -- so after the checks a chunk is judged by its walk
   pub judged-walks : judgeChunk S span records work ≡ walked S span
@@ -155,26 +154,25 @@ module _ (S : Script) (span : Span) {records work : ℕ} (B : BeforeWalk S span 
   pub accepted-measures : {h r t : ℕ} → walked S span ≡ passes h r t → Measures S span h r t
   accepted-measures e = let a = ran-so e in rw (a .numbers .0, a .numbers .1, a .numbers .2) at (ran-measures (a .book) (a .ran))
 
+  -- an accepted height is below the number of instructions reached, which is at most that of the chunk
+  pub height-below : {h r t : ℕ} → walked S span ≡ passes h r t → (h < r) × (r ≤ length (chunkStarts S span))
+  height-below e =
+      let a = ran-so e in
+      let b = accepted-bounded (machine S span) laws units (a .ran) in
+      (omega (arith, b .1, a .numbers .0, a .numbers .1), omega (arith, b .0 .few, a .numbers .1))
+
   -- Theorem 7. A refusal is real: an instruction on a path from the entry fails that very test with these values; or, for 14,
   -- the largest depth on the paths is above the declared height.
-  pub record Exceeds (a : Answer) : Type 0 where
-    pub height : ℕ
-    pub reached : ℕ
-    pub taken : ℕ
-    pub measures : Measures S span height reached taken
-    pub above : span .declared < height
-    pub answer : a ≡ StackExceedsDeclared height (span .declared)
-
-  pub refused-really : {a : Answer} → walked S span ≡ fails a → Real S span a ⊎ Exceeds a
+  pub refused-really : {a : Answer} → walked S span ≡ fails a → Real S span a ⊎ Exceeds S span a
   unfolding walked measured units E
   refused-really {a} e = go (walk (machine S span) log (1 + E S span) []) refl e
     where
-      go : (o : Run Answer Log) → walk (machine S span) log (1 + E S span) [] ≡ o → measured (span .declared) o ≡ fails a → Real S span a ⊎ Exceeds a
+      go : (o : Run Answer Log) → walk (machine S span) log (1 + E S span) [] ≡ o → measured (span .declared) o ≡ fails a → Real S span a ⊎ Exceeds S span a
       go (accepted b) q e = by-height (ltb (span .declared) (b .height)) refl e
         where
           by-height : (x : Bool) → ltb (span .declared) (b .height) ≡ x
               → _≡_ {A = Judged} (cond x (fails (StackExceedsDeclared (b .height) (span .declared))) (passes (b .height) (b .reached) (b .taken))) (fails a)
-              → Real S span a ⊎ Exceeds a
+              → Real S span a ⊎ Exceeds S span a
           by-height true p e =
               inr (record { height = b .height; reached = b .reached; taken = b .taken; measures = ran-measures b q; above = ltb-true (span .declared) (b .height) p; answer = cc })
           by-height false p e = absurd (zero≢one (cc))
@@ -183,9 +181,6 @@ module _ (S : Script) (span : Span) {records work : ℕ} (B : BeforeWalk S span 
 
 -- Theorem 8. The height is the least that can be declared: with the same entry and end, the chunk is accepted under just those
 -- declared heights that are no less.
-abbrev pub redeclared : Span → ℕ → Span
-redeclared span declared = record { entry = span .entry; end = span .end; declared = declared }
-
 module _ (S : Script) (span : Span) where
   same-walk : (declared : ℕ)
       → walk (machine S (redeclared span declared)) log (1 + E S (redeclared span declared)) [] ≡ walk (machine S span) log (1 + E S span) []

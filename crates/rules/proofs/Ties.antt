@@ -182,9 +182,9 @@ module _ (S : Script) (span : Span) where
     where
       go : Says S span p d (rule S span p d) → Real S span r
       go (no-rights l e) = let same : r ≡ MissingCaps p (lacks S span p) = cc in rw same (lacks-rights met l)
-      go (no-operands z l e) = let same : r ≡ Underflow p (need S span p) (d .operands) = cc in rw same (underflows met l)
-      go (no-iterator z n l e) = let same : r ≡ IteratorUnderflow p = cc in rw same (refusals.no-iterator met l)
-      go (no-handler z n l e) = let same : r ≡ HandlerUnderflow p = cc in rw same (refusals.no-handler met l)
+      go (no-operands z l e) = let same : r ≡ Underflow p (need S span p) (d .operands) = cc in rw same (underflows met z l)
+      go (no-iterator z n l e) = let same : r ≡ IteratorUnderflow p = cc in rw same (refusals.no-iterator met z n l)
+      go (no-handler z n l e) = let same : r ≡ HandlerUnderflow p = cc in rw same (refusals.no-handler met z n l)
       go (no-next able plainly l e) =
           let same : r ≡ FallsOffTheEnd = cc in
           let edge = falls-edge S span p d (plain-falls (tagOf S p) plainly) in

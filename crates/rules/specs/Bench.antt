@@ -5,7 +5,8 @@ use Prim.Native.Nat.{ℕ}
 use lib.ListN.{length}
 use Rattle.listing.specs.Listing.{starts}
 use Rattle.pools.specs.Pools.{Pools}
-use Rattle.rules.specs.Answer.{refusal, noChunk, numbered}
+use Rattle.rules.specs.Answer.{numbered}
+use Rattle.rules.specs.declared.Answer.the-variants.{Accepted}
 use Rattle.rules.specs.declared.verdict.Verdict.{Verdict}
 use Rattle.rules.specs.Chunk.{Judged, passes, fails, judgeChunk}
 use Rattle.rules.specs.Script.{Span}
@@ -27,10 +28,8 @@ pub record Outcome : Type 0 where
   pub heights : List ℕ
 
 unfoldable pub outcome : List ℕ → Judged → Outcome
-outcome code (passes height reached taken) = record {
-  verdict = record { kind = 0; chunk = noChunk; at = 0; p = 0; q = 0; instructions = length (starts code); reached = reached; taken = taken };
-  heights = height ∷ [];
-}
+outcome code (passes height reached taken) =
+    record { verdict = numbered 0 (Accepted (length (starts code)) reached taken); heights = height ∷ [] }
 outcome code (fails answer) = record { verdict = numbered 0 answer; heights = [] }
 
 unfoldable pub answered : Row → Outcome
@@ -50,7 +49,13 @@ accepts height instructions reached taken code span = record {
 }
 
 abbrev pub refuses : (kind at p q : ℕ) (code : List ℕ) (rights : ℕ) (span : Span) → Row
-refuses kind at p q code rights span = record { code = code; rights = rights; span = span; verdict = refusal kind 0 at p q; heights = [] }
+refuses kind at p q code rights span = record {
+  code = code;
+  rights = rights;
+  span = span;
+  verdict = record { kind = kind; chunk = 0; at = at; p = p; q = q; instructions = 0; reached = 0; taken = 0 };
+  heights = [];
+}
 
 abbrev pub bench : List Row
 bench =

@@ -45,6 +45,17 @@ module _ (S : Script) (span : Span) where
         (cond (ltb work (4 * (1 + E S span))) (fails (NoRoom (4 * (1 + E S span)) 4))
         walked)))
 
+-- a chunk is accepted by its walk, with its height and its two counts
+pub record Accepted (S : Script) (span : Span) : Type 0 where
+  pub height : ℕ
+  pub reached : ℕ
+  pub taken : ℕ
+  pub so : walked S span ≡ passes height reached taken
+
+-- the same chunk with another height declared
+abbrev pub redeclared : Span → ℕ → Span
+redeclared span declared = record { entry = span .entry; end = span .end; declared = declared }
+
 -- What the checks before a walk establish, where so many words of records and of work are lent: every byte of the code belongs
 -- to an instruction; each chain and switch that an instruction names is there, and its spans lie in their tables; the chunk
 -- passed 7 and 8, and has its room.

@@ -6,12 +6,13 @@ use Prim.Native.Nat.{ℕ, _≤_, _<_}
 use Rattle.code.specs.Width.{widthOf}
 use Rattle.listing.specs.Listing.{Start}
 use Rattle.rules.specs.declared.Answer.{Answer}
-use Rattle.rules.specs.declared.Answer.the-variants.{MissingCaps, JumpOutOfRange, JumpIntoAnInstruction, DepthConflict, Underflow, FallsOffTheEnd, IteratorUnderflow, HandlerUnderflow}
+use Rattle.rules.specs.declared.Answer.the-variants.{MissingCaps, JumpOutOfRange, JumpIntoAnInstruction, DepthConflict, Underflow, FallsOffTheEnd, StackExceedsDeclared, IteratorUnderflow, HandlerUnderflow}
 use Rattle.rules.specs.declared.Depths.{Depths}
 use Rattle.rules.specs.Depths.{Item}
 use Rattle.rules.specs.Edges.{targets}
 use Rattle.rules.specs.Effects.{needs}
 use Rattle.rules.specs.Lists.{_∈_}
+use Rattle.rules.specs.Measures.{Measures}
 use Rattle.rules.specs.Paths.{iteratorsNeeded, handlersNeeded, Able, Path}
 use Rattle.rules.specs.Rights.{required, lacking}
 use Rattle.rules.specs.Script.{Script, Span, InChunk, tagOf}
@@ -38,10 +39,19 @@ module _ (S : Script) (span : Span) where
         → Real (JumpIntoAnInstruction p t)
     -- 11: two paths bring different depths to it
     disagrees : {p : ℕ} {d e : Depths} → Met p d → Met p e → ¬ (d ≡ e) → Real (DepthConflict p d e)
-    -- 12: it needs more operands than there are
-    underflows : {p : ℕ} {d : Depths} → Met p d → d .operands < need p → Real (Underflow p (need p) (d .operands))
+    -- 12: it has its rights, and needs more operands than there are
+    underflows : {p : ℕ} {d : Depths} → Met p d → lacks p ≡ 0 → d .operands < need p → Real (Underflow p (need p) (d .operands))
     -- 13: a path runs off the end
     runs-off : {i : Item} → Path S span i → span .end ≤ i .place → Real FallsOffTheEnd
-    -- 15, 16: it needs an iterator, or a handler, and there is none
-    no-iterator : {p : ℕ} {d : Depths} → Met p d → d .iterators < iteratorsNeeded (tagOf S p) → Real (IteratorUnderflow p)
-    no-handler : {p : ℕ} {d : Depths} → Met p d → d .handlers < handlersNeeded (tagOf S p) → Real (HandlerUnderflow p)
+    -- 15, 16: it has its rights and its operands, and needs an iterator, or a handler, where there is none
+    no-iterator : {p : ℕ} {d : Depths} → Met p d → lacks p ≡ 0 → need p ≤ d .operands → d .iterators < iteratorsNeeded (tagOf S p) → Real (IteratorUnderflow p)
+    no-handler : {p : ℕ} {d : Depths} → Met p d → lacks p ≡ 0 → need p ≤ d .operands → d .handlers < handlersNeeded (tagOf S p) → Real (HandlerUnderflow p)
+
+  -- 14: a whole walk refuses nothing, and the largest depth on the paths is above the declared height
+  pub record Exceeds (a : Answer) : Type 0 where
+    pub height : ℕ
+    pub reached : ℕ
+    pub taken : ℕ
+    pub measures : Measures S span height reached taken
+    pub above : span .declared < height
+    pub answer : a ≡ StackExceedsDeclared height (span .declared)

@@ -1,0 +1,63 @@
+-- `probe::depths::probe_after` meets its contract: the depths are carried over where they pass the tests.
+use mathlib.Core.Path.{_∙_, sym}
+use borrow.Author.Needs.{needs}
+use borrow.Author.Tests.{not-true, not-false}
+use Rattle.probe.proofs.Held.{held, enough, untold, told}
+use Rattle.probe.proofs.Ready.{not-first, not-second, each}
+use Rattle.probe.proofs.depths.probe_after.Statement.{statement}
+use Rattle.probe.proofs.depths.probe_after.Tie as tie
+
+has-depths-requires : tie.Need-has-depths-requires
+has-depths-requires c κs = search needs
+
+nothing-requires : tie.Need-nothing-requires
+nothing-requires c κs = search needs
+
+returns : tie.Need-returns
+returns c = untold (not-first _ _ (sym (c .before .before .has-depths .ensures) ∙ not-true _ (c .before .if1 .taken))) (c .nothing .ensures)
+
+has-operands-requires : tie.Need-has-operands-requires
+has-operands-requires c κs = search needs
+
+nothing-requires-2 : tie.Need-nothing-requires-2
+nothing-requires-2 c κs = search needs
+
+returns-2 : tie.Need-returns-2
+returns-2 c =
+    untold
+    (not-second _ _ (sym (c .before .before .before .before .has-depths .ensures) ∙ not-false _ (c .before .before .before .if1 .left)) (sym (c .before .before .has-operands .ensures) ∙ not-true _ (c .before .if2 .taken)))
+    (c .nothing2 .ensures)
+
+after-requires : tie.Need-after-requires
+after-requires c κs = (held _ _ (sym (c .before .before .before .has-depths .ensures) ∙ not-false _ (c .before .before .if1 .left)), enough _ _ _ (sym (c .before .has-operands .ensures) ∙ not-false _ (c .if2 .left)))
+
+cast-t13 : tie.Need-cast-t13
+cast-t13 c = search needs
+
+cast-t14 : tie.Need-cast-t14
+cast-t14 c = search needs
+
+cast-t15 : tie.Need-cast-t15
+cast-t15 c = search needs
+
+returns-3 : tie.Need-returns-3
+returns-3 c =
+    told
+    (each _ _ (sym (c .before .before .before .before .before .before .before .has-depths .ensures) ∙ not-false _ (c .before .before .before .before .before .before .if1 .left)) (sym (c .before .before .before .before .before .has-operands .ensures) ∙ not-false _ (c .before .before .before .before .if2 .left)))
+    (c .before .before .before .after .ensures)
+
+pub probe-after-spec : {M : Type 1} → statement M
+probe-after-spec =
+    tie.close
+    (tie.spec
+    has-depths-requires
+    nothing-requires
+    returns
+    has-operands-requires
+    nothing-requires-2
+    returns-2
+    after-requires
+    cast-t13
+    cast-t14
+    cast-t15
+    returns-3)

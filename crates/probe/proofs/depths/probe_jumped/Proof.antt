@@ -1,0 +1,44 @@
+-- `probe::depths::probe_jumped` meets its contract: the depths are carried over where they pass the tests.
+use mathlib.Core.Path.{_∙_, sym}
+use borrow.Author.Needs.{needs}
+use borrow.Author.Tests.{not-true, not-false}
+use Rattle.probe.proofs.Held.{held, untold, told}
+use Rattle.probe.proofs.depths.probe_jumped.Statement.{statement}
+use Rattle.probe.proofs.depths.probe_jumped.Tie as tie
+
+has-depths-requires : tie.Need-has-depths-requires
+has-depths-requires c κs = search needs
+
+nothing-requires : tie.Need-nothing-requires
+nothing-requires c κs = search needs
+
+returns : tie.Need-returns
+returns c = untold (sym (c .before .before .has-depths .ensures) ∙ not-true _ (c .before .if1 .taken)) (c .nothing .ensures)
+
+jumped-requires : tie.Need-jumped-requires
+jumped-requires c κs = held _ _ (sym (c .before .has-depths .ensures) ∙ not-false _ (c .if1 .left))
+
+cast-t13 : tie.Need-cast-t13
+cast-t13 c = search needs
+
+cast-t14 : tie.Need-cast-t14
+cast-t14 c = search needs
+
+cast-t15 : tie.Need-cast-t15
+cast-t15 c = search needs
+
+returns-2 : tie.Need-returns-2
+returns-2 c = told (sym (c .before .before .before .before .before .has-depths .ensures) ∙ not-false _ (c .before .before .before .before .if1 .left)) (c .before .before .before .jumped .ensures)
+
+pub probe-jumped-spec : {M : Type 1} → statement M
+probe-jumped-spec =
+    tie.close
+    (tie.spec
+    has-depths-requires
+    nothing-requires
+    returns
+    jumped-requires
+    cast-t13
+    cast-t14
+    cast-t15
+    returns-2)

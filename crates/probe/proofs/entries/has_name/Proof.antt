@@ -1,0 +1,42 @@
+-- `probe::entries::has_name` meets its contract: the index of a tag that asks for a name lies inside its instruction.
+use mathlib.Core.Path.{_∙_, sym}
+use native.Mathlib.Omega.{arith}
+use borrow.Author.Needs.{needs}
+use borrow.Author.Tests.{not-true, not-false}
+use Rattle.rules.proofs.Operands.{tag-there}
+use Rattle.probe.proofs.Found.{no-name-asked, name-asked, name-index}
+use Rattle.probe.proofs.entries.has_name.Statement.{statement}
+use Rattle.probe.proofs.entries.has_name.Tie as tie
+
+shared-slice-read-looks-at-name : tie.Need-shared-slice-read-looks-at-name
+shared-slice-read-looks-at-name c = tag-there _ _ (c .before .before .before .pre)
+
+looks-at-name-requires : tie.Need-looks-at-name-requires
+looks-at-name-requires c κs = search needs
+
+returns : tie.Need-returns
+returns c = no-name-asked _ _ _ (sym (c .before .looks-at-name .ensures) ∙ not-true _ (c .if1 .taken))
+
+add-read-u16 : tie.Need-add-read-u16
+add-read-u16 c = omega (arith, name-index _ _ (c .before .before .before .before .before .pre) (sym (c .before .looks-at-name .ensures) ∙ not-false _ (c .if1 .left)))
+
+read-u16-requires : tie.Need-read-u16-requires
+read-u16-requires c κs = omega (arith, name-index _ _ (c .before .before .before .before .before .pre) (sym (c .before .looks-at-name .ensures) ∙ not-false _ (c .if1 .left)))
+
+cast-i : tie.Need-cast-i
+cast-i c = search needs
+
+returns-2 : tie.Need-returns-2
+returns-2 c = name-asked _ _ _ (sym (c .before .before .looks-at-name .ensures) ∙ not-false _ (c .before .if1 .left)) _ (c .read-u16 .ensures)
+
+pub has-name-spec : {M : Type 1} → statement M
+has-name-spec =
+    tie.close
+    (tie.spec
+    shared-slice-read-looks-at-name
+    looks-at-name-requires
+    returns
+    add-read-u16
+    read-u16-requires
+    cast-i
+    returns-2)

@@ -1,0 +1,34 @@
+-- `probe::instruction::probe_effect` meets its contract: the three numbers are carried over where the entries are there.
+use mathlib.Core.Path.{_∙_, sym}
+use borrow.Author.Needs.{needs}
+use borrow.Author.Tests.{not-true, not-false}
+use Rattle.probe.proofs.Across.{effect-untold, effect-told}
+use Rattle.probe.proofs.Ready.{ready}
+use Rattle.probe.proofs.instruction.probe_effect.Statement.{statement}
+use Rattle.probe.proofs.instruction.probe_effect.Tie as tie
+
+is-there-requires : tie.Need-is-there-requires
+is-there-requires c κs = search needs
+
+returns : tie.Need-returns
+returns c = effect-untold _ _ _ _ _ _ _ _ (sym (c .before .is-there .ensures) ∙ not-true _ (c .if1 .taken))
+
+effect-requires : tie.Need-effect-requires
+effect-requires c κs = let r = ready _ _ _ _ _ _ _ _ (sym (c .before .is-there .ensures) ∙ not-false _ (c .if1 .left)) in (r .wide, r .chain-entry)
+
+cast-t12 : tie.Need-cast-t12
+cast-t12 c = search needs
+
+cast-t13 : tie.Need-cast-t13
+cast-t13 c = search needs
+
+cast-t14 : tie.Need-cast-t14
+cast-t14 c = search needs
+
+returns-2 : tie.Need-returns-2
+returns-2 c = effect-told _ _ _ _ _ _ _ _ (sym (c .before .before .before .before .before .is-there .ensures) ∙ not-false _ (c .before .before .before .before .if1 .left)) (c .before .before .before .effect .ensures)
+
+pub probe-effect-spec : {M : Type 1} → statement M
+probe-effect-spec =
+    tie.close
+    (tie.spec is-there-requires returns effect-requires cast-t12 cast-t13 cast-t14 returns-2)
