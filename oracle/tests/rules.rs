@@ -1,5 +1,6 @@
-//! The proved rules of one instruction, called through their C exports, against the oracle: what it needs,
-//! does and leads to, for every byte as its tag; and the depths after it, against document 01 in plain Rust.
+//! The proved rules of one instruction, called through their C exports. What it needs, does and
+//! leads to is compared with the oracle, for every byte as its tag; the depths after it and at
+//! its targets, with document 01 in plain Rust.
 
 use oracle::generator::Rng;
 use oracle::input::Input;
@@ -236,7 +237,8 @@ fn compare(input: &Input, at: usize) -> bool {
 // Random operands and pools
 // ---------------------------------------------------------------------------------------------
 
-/// First and count: mostly within a table of `length`, at times one past it, or such that their sum wraps 32 bits.
+/// First and count: mostly within a table of `length`, at times one past it, or such that their
+/// sum wraps 32 bits.
 fn span(rng: &mut Rng, length: usize) -> [u32; 2] {
     let first = rng.below(length + 1);
     let left = length - first;
@@ -253,8 +255,8 @@ fn words(rng: &mut Rng, count: usize) -> Vec<u32> {
     (0..count).map(|_| rng.word() as u32).collect()
 }
 
-/// Tables of random words, at times with words left over. A step has one of the three kinds that there are: another is
-/// refused before any instruction is looked at.
+/// Tables of random words, at times with words left over. A step has one of the three kinds that
+/// there are: another is refused before any instruction is looked at.
 fn pools(rng: &mut Rng) -> Input {
     let [steps, cases, ranges] = [(); 3].map(|()| rng.below(7));
     let mut input = Input {
@@ -291,8 +293,9 @@ fn pools(rng: &mut Rng) -> Input {
     input
 }
 
-/// A code with an instruction of this tag at the offset that comes back. Its bytes are random but for the index of an entry,
-/// which lies near the end of its table; now and then some of them are cut off.
+/// A code with an instruction of this tag at the offset that comes back. Its bytes are random but
+/// for the index of an entry, which lies near the end of its table; now and then some of them are
+/// cut off.
 fn code(rng: &mut Rng, tag: u8, input: &mut Input) -> usize {
     let at = rng.below(4);
     let mut operands: Vec<u8> = (0..8).map(|_| rng.byte()).collect();
@@ -324,7 +327,7 @@ fn every_tag_with_random_operands_and_pools() {
     let mut rng = Rng::new(72);
     let mut told = [0u32; 256];
     let mut kept_back = [0u32; 256];
-    for round in 0..2_000 {
+    for round in 0..3_000 {
         for tag in 0..=255 {
             let mut input = pools(&mut rng);
             let at = code(&mut rng, tag, &mut input);
@@ -395,7 +398,8 @@ fn spans_and_indices_at_the_ends() {
             }
         }
     }
-    // So many spans lie within a table of three. They decide CHAIN's first entry and both of SWITCH; CHAIN's second is whole.
+    // So many spans lie within a table of three. They decide CHAIN's first entry and both of
+    // SWITCH; CHAIN's second is always whole.
     let within = (0..=3).map(|first| 4 - first).sum::<u32>();
     assert_eq!(told, 3 * within + 81);
 }
@@ -432,8 +436,8 @@ fn after(tag: u8, pops: u32, pushes: u32, before: Depths) -> Option<Depths> {
     })
 }
 
-/// Document 01: ITER_NEXT*'s exit keeps the depth with one iterator less; a handler's target has the operands from before
-/// it and one handler more.
+/// Document 01: ITER_NEXT*'s exit keeps the depth with one iterator less; a handler's target has
+/// the operands from before it and one handler more.
 fn jumped(tag: u8, before: Depths, after: Depths) -> Option<Depths> {
     let [operands, iterators, handlers] = before;
     holds(tag, before).then(|| {

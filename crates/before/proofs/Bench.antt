@@ -1,10 +1,9 @@
 -- Document 01's bench cases of this floor, computed: `00` and `24 00` have no width at 0, `01 07 24 00 00` names a constant
 -- where there is none, and a constant word 768 is refused whole under rights 256.
 use mathlib.Core.List.{List, [], _∷_}
-use mathlib.Core.Option.{none, some}
+use mathlib.Core.Option.{some}
 use mathlib.Core.Path.{_≡_, refl}
 use Prim.Native.Nat.{ℕ}
-use lib.Bits.{bitAnd}
 use Rattle.code.specs.Layout.{layout, among, indicesFrom}
 use Rattle.code.specs.Numbers.{little}
 use Rattle.code.specs.Width.{widthOf, toldBy}

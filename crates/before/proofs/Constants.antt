@@ -1,14 +1,14 @@
 -- The constants upward: what is left to test from the constant at hand on is what there was to test from the first.
 use mathlib.Core.List.{List, [], _∷_}
 use mathlib.Core.Option.{none}
-use mathlib.Core.Path.{_≡_, refl, sym, ap, _∙_}
-use Prim.Native.Nat.{ℕ, suc, _+_, _≤_, _<_}
+use mathlib.Core.Path.{_≡_, refl, sym, _∙_}
+use Prim.Native.Nat.{ℕ, _+_, _≤_, _<_}
 use native.Mathlib.Numerals.{add-one}
 use native.Mathlib.Omega.{arith}
 use lib.ListN.{length, getD, drop}
 use lib.Seq.{drop-cons, drop-length}
 use Rattle.rules.specs.declared.Answer.{Answer}
-use Rattle.before.specs.Before.{Test, told, first, rightsTest, constantsTest}
+use Rattle.before.specs.Before.{told, first, rightsTest, constantsTest}
 use Rattle.before.specs.declared.Outcome.{Outcome}
 use Rattle.before.specs.declared.Outcome.the-variants.{Passed, Refused}
 use Rattle.before.proofs.Tests.{goes-on, stops, last}

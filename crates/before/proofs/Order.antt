@@ -1,18 +1,14 @@
--- The tests in document 01's order: what holds once those before any store have passed, and what is told and held at each way
--- out of those after it.
+-- What holds once the tests before any store have passed.
 use mathlib.Core.Bool.{Bool, true, false, cond}
 use mathlib.Core.List.{List}
 use mathlib.Core.Option.{none, some}
-use mathlib.Core.Path.{_≡_, refl, ap, _∙_}
+use mathlib.Core.Path.{_≡_, refl, ap}
 use Prim.Native.Nat.{ℕ, _+_, _/_, _≤_}
 use native.Mathlib.Omega.{arith}
 use borrow.Author.Tests.{eqb-true, ltb-false}
 use lib.Dec.{ltb, eqb}
-use lib.ListN.{length, replicate, length-replicate}
 use Rattle.indices.specs.Indices.{Sound, tables}
 use Rattle.indices.specs.declared.Sizes as counted
-use Rattle.listing.specs.Listing.{starts}
-use Rattle.marks.proofs.Laws.{length-all}
 use Rattle.pools.specs.Good.{GoodTables}
 use Rattle.pools.specs.Pools.{whole}
 use Rattle.pools.specs.Sizes.{firstExceeded, Within}
@@ -22,12 +18,8 @@ use Rattle.pools.specs.declared.limits.Sizes.{Sizes}
 use Rattle.pools.proofs.First.{Upward, none as never, first-at}
 use Rattle.pools.proofs.LimitLaws as limit
 use Rattle.pools.proofs.TableLaws.{passed-good}
-use Rattle.rules.specs.declared.Answer.{Answer}
 use Rattle.rules.specs.declared.Answer.the-variants.{TooLarge, BadTable, NoRoom}
-use Rattle.before.specs.Before.{Test, told, limitsTest, tablesTest, roomTest, earlyTests}
-use Rattle.before.specs.Memory.{marksOf, marksFrom}
-use Rattle.before.specs.declared.Outcome.{Outcome}
-use Rattle.before.specs.declared.Outcome.the-variants.{Passed, Refused}
+use Rattle.before.specs.Before.{limitsTest, tablesTest, roomTest, earlyTests}
 use Rattle.before.proofs.Tests.{both, not-refused}
 
 -- ---- what each test before any store establishes
@@ -85,37 +77,3 @@ sound sizes c s g = record {
   steps-within = λ i h. g .good-chains i h .within;
   cases-within = λ i h. g .good-switches i h .cases-within;
 }
-
--- ---- what marks hold at each way out
-
--- cleared, after a refusal
-pub zeroed : {r : Outcome} {answer : Answer} {words : List ℕ} (code : List ℕ) (n : ℕ) → r ≡ Refused answer → words ≡ replicate n 0
-    → words ≡ marksOf code (told r) n
-unfolding told marksOf
-zeroed code n e z = rw e z
-
--- and cleared once more, after a pass
-pub cleared-again : {words after : List ℕ} (code : List ℕ) (test : Test) (n : ℕ) → words ≡ marksOf code test n
-    → after ≡ replicate (length words) 0 → after ≡ replicate n 0
-unfolding marksOf
-cleared-again code test n m z = z ∙ ap (λ (k : ℕ). replicate k 0) (ap length m ∙ as-many test)
-  where
-    as-many : (t : Test) → length (marksOf code t n) ≡ n
-    as-many none = length-all (replicate n 0) (starts code) ∙ length-replicate n 0
-    as-many (some answer) = length-replicate n 0
-
--- the same after the same outcome
-pub as-held : {r s : Outcome} {words : List ℕ} (code : List ℕ) (n : ℕ) → r ≡ s → words ≡ marksOf code (told r) n → words ≡ marksOf code (told s) n
-as-held code n e m = m ∙ ap (λ (o : Outcome). marksOf code (told o) n) e
-
--- untouched, after a refusal before any store
-pub untouched : {r : Outcome} {answer : Answer} {early : Test} → told r ≡ early → r ≡ Refused answer → (late : Test) (code before : List ℕ)
-    → before ≡ marksFrom early late code before
-unfolding told marksFrom
-untouched e p late code before = rw (← e, p)
-
--- and otherwise what the later tests leave
-pub touched : {r : Outcome} {early : Test} → told r ≡ early → r ≡ Passed → (code before : List ℕ) (s : Outcome) {late : Test} {after : List ℕ}
-    → told s ≡ late → after ≡ marksOf code (told s) (length before) → after ≡ marksFrom early late code before
-unfolding told marksFrom
-touched e p code before s l m = rw (← e, p, ← l) m

@@ -25,6 +25,7 @@ use Rattle.rules.specs.declared.Answer.the-variants.{Undecodable, BadIndex}
 use Rattle.before.specs.Before.{Test, told, first, indicesTest, widthTest, codeTest}
 use Rattle.before.specs.Memory.{Prepared, marksOf}
 use Rattle.before.specs.Pass.{unless, turnAt, marksTurned, Turned}
+use Rattle.before.specs.declared.Outcome.{Outcome}
 use Rattle.before.specs.declared.Outcome.the-variants as outcome
 use Rattle.before.specs.declared.Turn.{Turn}
 use Rattle.before.specs.declared.Turn.the-variants.{Next, Done, Refused}
@@ -73,12 +74,12 @@ module _ (sizes : Sizes) (records : Tables) (code : List ℕ) where
       → codeTest sizes records code at ≡ first (indicesTest sizes records code at ∷ codeTest sizes records code (at + widthAt code at) ∷ [])
   unfolding codeTest
   code-on at h =
-      walk-on (λ i rest. first (indicesTest sizes records code i ∷ rest ∷ [])) (widthTest sizes records code) (all-within widthOf code) at h
+      walk-on (λ i rest. first (indicesTest sizes records code i ∷ rest ∷ [])) (widthTest code) (all-within widthOf code) at h
 
-  pub code-stop : (at : ℕ) → widthAt code at ≡ 0 → codeTest sizes records code at ≡ widthTest sizes records code at
+  pub code-stop : (at : ℕ) → widthAt code at ≡ 0 → codeTest sizes records code at ≡ widthTest code at
   unfolding codeTest
   code-stop at e =
-      walk-stop (λ i rest. first (indicesTest sizes records code i ∷ rest ∷ [])) (widthTest sizes records code) (all-within widthOf code) at e
+      walk-stop (λ i rest. first (indicesTest sizes records code i ∷ rest ∷ [])) (widthTest code) (all-within widthOf code) at e
 
   -- indices that are fine leave it to the rest, and a bad one does not
   told-next : (at : ℕ) → 0 < widthAt code at → indicesTest sizes records code at ≡ none
@@ -93,16 +94,16 @@ module _ (sizes : Sizes) (records : Tables) (code : List ℕ) where
 
   -- the four ways of a turn
   data Ways (at : ℕ) : Turn → Type 0 where
-    ends : widthAt code at ≡ 0 → widthTest sizes records code at ≡ none → Ways at Done
-    lacks : {answer : Answer} → widthAt code at ≡ 0 → widthTest sizes records code at ≡ some answer → Ways at (Refused answer)
+    ends : widthAt code at ≡ 0 → widthTest code at ≡ none → Ways at Done
+    lacks : {answer : Answer} → widthAt code at ≡ 0 → widthTest code at ≡ some answer → Ways at (Refused answer)
     passes : 0 < widthAt code at → indicesTest sizes records code at ≡ none → Ways at (Next (at + widthAt code at))
     is-bad : {answer : Answer} → 0 < widthAt code at → indicesTest sizes records code at ≡ some answer → Ways at (Refused answer)
 
   ways : (at : ℕ) → Ways at (turnAt sizes records code at)
   unfolding turnAt
-  ways at = go (eqb (widthAt code at) 0) refl (widthTest sizes records code at) refl (indicesTest sizes records code at) refl
+  ways at = go (eqb (widthAt code at) 0) refl (widthTest code at) refl (indicesTest sizes records code at) refl
     where
-      go : (b : Bool) → eqb (widthAt code at) 0 ≡ b → (s : Test) → widthTest sizes records code at ≡ s
+      go : (b : Bool) → eqb (widthAt code at) 0 ≡ b → (s : Test) → widthTest code at ≡ s
           → (t : Test) → indicesTest sizes records code at ≡ t → Ways at (cond b (unless s Done) (unless t (Next (at + widthAt code at))))
       go true p none q t r = ends (eqb-true _ 0 p) q
       go true p (some answer) q t r = lacks (eqb-true _ 0 p) q
@@ -200,10 +201,13 @@ module _ (sizes : Sizes) (records : Tables) (code : List ℕ) where
         go (passes w t) q = let no : _≡_ {A = ℕ} 0 1 = cc in absurd (omega arith)
         go (is-bad w t) q = sym (told-here at w t ∙ (cc)) ∙ going .to-tell
 
-    pub refused-here : {answer : Answer} (before cleared : List ℕ) → zeros ≡ replicate (length before) 0 → r ≡ Refused answer
-        → cleared ≡ replicate (length after) 0
-        → Prepared (codeTest sizes records code 0) (marksOf code (some answer) (length before)) (outcome.Refused answer) cleared
-    unfolding told marksOf
-    refused-here before cleared z e k =
+    pub refused-here : {answer : Answer} {s : Outcome} {cleared : List ℕ} (before : List ℕ) → zeros ≡ replicate (length before) 0
+        → r ≡ Refused answer → Prepared (some answer) (replicate (length after) 0) s cleared
+        → Prepared (codeTest sizes records code 0) (marksOf code (told s) (length before)) s cleared
+    unfolding marksOf
+    refused-here before z e p =
         let same : length after ≡ length before = as-long ∙ going .long ∙ ap length z ∙ length-replicate _ _ in
-        record { answer = told-refusal e; marks = k ∙ ap (λ (n : ℕ). replicate n 0) same }
+        record {
+          answer = p .answer ∙ told-refusal e;
+          marks = p .marks ∙ ap (λ (n : ℕ). replicate n 0) same ∙ sym (ap (λ (t : Test). marksOf code t (length before)) (p .answer));
+        }

@@ -37,47 +37,49 @@ first (test ∷ tests) = elim test [ none ↦ first tests | some answer ↦ some
 
 -- ---- the tests
 
--- 1
+-- kind 1: more of something than its limit allows
 unfoldable pub limitsTest : Sizes → Test
 limitsTest sizes = cond (eqb (firstExceeded sizes .kind) 0) none (some (TooLarge (firstExceeded sizes .p)))
 
--- 2
+-- kind 2: a ragged table, or a bad entry
 module _ (chains steps switches cases ranges : List ℕ) where
   unfoldable pub tablesTest : Test
   tablesTest =
       cond (eqb (firstBad chains steps switches cases ranges .kind) 0) none
       (some (BadTable (firstBad chains steps switches cases ranges .p) (firstBad chains steps switches cases ranges .q)))
 
--- 3: so many elements are needed of the buffer of this number
+-- kind 3: fewer elements are lent of the buffer of this number than are needed
 unfoldable pub roomTest : (needed lent buffer : ℕ) → Test
 roomTest needed lent buffer = cond (ltb lent needed) (some (NoRoom needed buffer)) none
 
--- 4: rights are needed, and answered whole where one lacks
+-- kind 4: a right lacks of those that are needed, which are told whole
 unfoldable pub rightsTest : (needed rights : ℕ) → Test
 rightsTest needed rights = cond (eqb (lacking needed rights) 0) none (some (MissingCaps 0 needed))
 
+-- of the constants upward
 unfoldable pub constantsTest : (rights : ℕ) → List ℕ → Test
 constantsTest rights [] = none
 constantsTest rights (word ∷ words) = first (rightsTest word rights ∷ constantsTest rights words ∷ [])
 
--- FUNCTION is the lowest of the rights bits
+-- of FUNCTION, the lowest of the rights bits, where there are functions
 unfoldable pub functionTest : (functions rights : ℕ) → Test
 functionTest functions rights = cond (eqb functions 0) none (rightsTest 1 rights)
 
--- 6, of the instruction at an offset; and 5 and 6 over the code from an offset on: the indices of each instruction, and where
--- the instructions stop before the code does, the width that lacks
+-- kind 5: the instructions stop at an offset before the code's end
+unfoldable pub widthTest : List ℕ → ℕ → Test
+widthTest code at = cond (leb (length code) at) none (some (Undecodable at))
+
 module _ (sizes : counted.Sizes) (records : reference.Tables) (code : List ℕ) where
+  -- kind 6: an index of the instruction at an offset is bad
   unfoldable pub indicesTest : ℕ → Test
   indicesTest at =
       cond (eqb (reference.firstBad (reference.sizeOf sizes) (reference.refs records code at) .kind) 0) none
       (some (BadIndex at (reference.firstBad (reference.sizeOf sizes) (reference.refs records code at) .p)
       (reference.firstBad (reference.sizeOf sizes) (reference.refs records code at) .q)))
 
-  unfoldable pub widthTest : ℕ → Test
-  widthTest at = cond (leb (length code) at) none (some (Undecodable at))
-
+  -- both over the code from an offset on: the indices of each instruction in turn, and the width where there is none
   unfoldable pub codeTest : ℕ → Test
-  codeTest at = walk (widthAt code) (λ i rest. first (indicesTest i ∷ rest ∷ [])) widthTest (length code) at
+  codeTest at = walk (widthAt code) (λ i rest. first (indicesTest i ∷ rest ∷ [])) (widthTest code) (length code) at
 
 -- ---- their order
 

@@ -6,7 +6,7 @@ use denote.Ref.{RefT, now}
 use denote.Triple.Both.{Both}
 use lib.ListN.{length}
 use Rattle.indices.specs.declared.Sizes as counted
-use Rattle.pools.specs.Pools.{Pools, whole}
+use Rattle.pools.specs.Pools.{whole}
 use Rattle.pools.specs.declared.limits.Sizes.{Sizes}
 use Rattle.rules.specs.Script.{Script}
 

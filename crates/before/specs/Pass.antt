@@ -24,7 +24,7 @@ module _ (sizes : Sizes) (records : Tables) (code : List ℕ) where
   -- code's end or the width that lacks
   unfoldable pub turnAt : ℕ → Turn
   turnAt at =
-      cond (eqb (widthAt code at) 0) (unless (widthTest sizes records code at) Done)
+      cond (eqb (widthAt code at) 0) (unless (widthTest code at) Done)
       (unless (indicesTest sizes records code at) (Next (at + widthAt code at)))
 
 -- an instruction that is passed is marked, and nothing else is

@@ -2,9 +2,10 @@
 // pass over the code with its marks, and the right to have functions.
 // Every answer, and all that marks hold on return, is fixed by what is passed in; any of it gets an answer.
 // What passes is what a chunk's walk builds on. The chunks themselves are left to `verify`.
+ghost use mathlib.Core.Option.{some};
 ghost use mathlib.Core.Path.{_≡_};
 ghost use Prim.Native.Nat.{_<_, _/_};
-ghost use lib.ListN.{length};
+ghost use lib.ListN.{length, replicate};
 ghost use Rattle.indices.specs.Indices.{Sound, tables};
 ghost use Rattle.before.specs.Before.{told, limitsTest, tablesTest, roomTest, rightsTest, constantsTest, functionTest, codeTest, earlyTests, lateTests};
 ghost use Rattle.before.specs.Input.{input, poolSizes};
@@ -27,7 +28,8 @@ pub enum Outcome {
     Refused(Answer),
 }
 
-// One instruction of the first pass: it is passed, and the next is at this offset; or there is none more; or a refusal.
+// What one instruction of the first pass comes to: it is passed, and this is the offset after it; the code has ended; or a
+// refusal.
 pub enum Turn {
     Next(usize),
     Done,
@@ -125,7 +127,7 @@ pub fn check_function(functions: u32, rights: u32) -> Outcome
     }
 }
 
-// One instruction of the first pass: its width, then its indices, and its mark where both are there.
+// One instruction of the first pass: its width, then its indices, and its mark where nothing is refused.
 pub fn pass_instruction(
     code: &[u8],
     at: usize,
@@ -162,7 +164,16 @@ pub fn pass_instruction(
     }
 }
 
-// The first pass, kinds 5 and 6: every instruction of the code in turn, reachable or not. A refusal clears the marks again.
+// A refusal after the first store leaves no mark.
+fn refuse(answer: Answer, marks: &mut [u64]) -> Outcome
+    ensures { λ r. ⌜ Prepared (some answer) (replicate (length (now (marks .entry))) 0) r (now (marks .exit)) ⌝ }
+{
+    marks::clear(marks);
+    Outcome::Refused(answer)
+}
+
+// Kinds 5 and 6, over the whole code, reachable or not: every instruction in turn, each marked. Words past those that the
+// code needs are cleared too, and a refusal clears all of them again.
 pub fn first_pass(
     code: &[u8],
     sizes: indices::Sizes,
@@ -195,11 +206,10 @@ pub fn first_pass(
             }
         }
     };
-    marks::clear(marks);
-    Outcome::Refused(refusal)
+    refuse(refusal, marks)
 }
 
-// The tests before any store: limits, tables, room for so many words of marks and elements of heights.
+// The tests before any store: limits, tables, and room, where so many words of marks and elements of heights are lent.
 fn early_tests(
     sizes: Sizes,
     chains: &[u32],
@@ -228,7 +238,8 @@ fn early_tests(
     check_room(sizes.chunks, heights, HEIGHTS)
 }
 
-// The tests after the first store: constants, the first pass, FUNCTION. A refusal by any of them leaves no mark.
+// The tests after the first store: constants, the first pass, FUNCTION. A refusal by any of them leaves no mark. For a caller
+// who knows that the tables are good and the marks enough.
 fn late_tests(
     rights: u32,
     functions: u32,
@@ -250,9 +261,8 @@ fn late_tests(
         r (now (marks .exit)) ⌝ }
 {
     let granted = check_constants(constants, rights);
-    if let Outcome::Refused(_) = granted {
-        marks::clear(marks);
-        return granted;
+    if let Outcome::Refused(answer) = granted {
+        return refuse(answer, marks);
     }
     let counts = indices::Sizes {
         constants: sizes.constants,
@@ -267,14 +277,13 @@ fn late_tests(
         return passed;
     }
     let function = check_function(functions, rights);
-    if let Outcome::Refused(_) = function {
-        marks::clear(marks);
-        return function;
+    if let Outcome::Refused(answer) = function {
+        return refuse(answer, marks);
     }
     Outcome::Passed
 }
 
-// Everything before the chunks, of any input.
+// Everything before the chunks, of any input. Kinds 1, 2 and 3 leave marks as they were.
 pub fn before_chunks(
     rights: u32,
     functions: u32,

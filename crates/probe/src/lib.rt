@@ -12,10 +12,10 @@ use code::Number32;
 use code::Width;
 use listing::Listed;
 
-pub mod prepared;
 pub mod depths;
 mod entries;
 pub mod instruction;
+pub mod prepared;
 
 // An answer in numbers: which case it is, and its value.
 #[repr(C)]

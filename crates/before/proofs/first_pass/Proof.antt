@@ -54,18 +54,17 @@ returns c =
 enum-known-turn-2 : tie.Need-enum-known-turn-2 Inv-pass μ-pass
 enum-known-turn-2 c = search needs
 
-clear-requires-2 : tie.Need-clear-requires-2 Inv-pass μ-pass
-clear-requires-2 c κs = search needs
+refuse-requires : tie.Need-refuse-requires Inv-pass μ-pass
+refuse-requires c κs = search needs
 
 same-length-2 : tie.Need-same-length-2 Inv-pass μ-pass
 same-length-2 c = search needs
 
 returns-2 : tie.Need-returns-2 Inv-pass μ-pass
-unfolding told
 returns-2 c =
     let turn = c .before .before .before .before .before .before .before .before .before in
-    refused-here _ _ _ (turn .before .before .pass .inv) (turn .pass-instruction .ensures) (start (turn .before .before .before) .args .marks .now) _ (turn .before .before .before .before .before .clear .ensures) (c .before .before .before .before .before .turn2 .given .1)
-    (c .before .before .clear2 .ensures)
+    refused-here _ _ _ (turn .before .before .pass .inv) (turn .pass-instruction .ensures) (start (turn .before .before .before) .args .marks .now) (turn .before .before .before .before .before .clear .ensures)
+    (c .before .before .before .before .before .turn2 .given .1) (c .before .before .refuse .ensures)
 
 pub first-pass-spec : {M : Type 1} → statement M
 first-pass-spec =
@@ -83,6 +82,6 @@ first-pass-spec =
     same-length
     returns
     enum-known-turn-2
-    clear-requires-2
+    refuse-requires
     same-length-2
     returns-2)

@@ -1,7 +1,9 @@
 -- `probe::depths::probe_after` meets its contract: the depths are carried over where they pass the tests.
-use mathlib.Core.Path.{_∙_, sym}
+use mathlib.Core.Bool.{true}
+use mathlib.Core.Path.{_≡_, _∙_, sym}
 use borrow.Author.Needs.{needs}
 use borrow.Author.Tests.{not-true, not-false}
+use Rattle.probe.specs.Depths.{holds, fits}
 use Rattle.probe.proofs.Held.{held, enough, untold, told}
 use Rattle.probe.proofs.Ready.{not-first, not-second, each}
 use Rattle.probe.proofs.depths.probe_after.Statement.{statement}
@@ -16,6 +18,10 @@ nothing-requires c κs = search needs
 returns : tie.Need-returns
 returns c = untold (not-first _ _ (sym (c .before .before .has-depths .ensures) ∙ not-true _ (c .before .if1 .taken))) (c .nothing .ensures)
 
+-- past the test, the depths passed it
+passed : (c : tie.Else1) → holds (c .before .before .args .tag) (c .before .before .args .iterators) (c .before .before .args .handlers) ≡ true
+passed c = sym (c .before .has-depths .ensures) ∙ not-false _ (c .if1 .left)
+
 has-operands-requires : tie.Need-has-operands-requires
 has-operands-requires c κs = search needs
 
@@ -25,11 +31,18 @@ nothing-requires-2 c κs = search needs
 returns-2 : tie.Need-returns-2
 returns-2 c =
     untold
-    (not-second _ _ (sym (c .before .before .before .before .has-depths .ensures) ∙ not-false _ (c .before .before .before .if1 .left)) (sym (c .before .before .has-operands .ensures) ∙ not-true _ (c .before .if2 .taken)))
+    (not-second _ _ (passed (c .before .before .before)) (sym (c .before .before .has-operands .ensures) ∙ not-true _ (c .before .if2 .taken)))
     (c .nothing2 .ensures)
 
+abbrev Room : tie.Start → Type 0
+Room s = fits (s .args .pops) (s .args .pushes) (s .args .operands) ≡ true
+
+-- and so did the operands
+room : (c : tie.Else2) → Room (c .before .before .before .before)
+room c = sym (c .before .has-operands .ensures) ∙ not-false _ (c .if2 .left)
+
 after-requires : tie.Need-after-requires
-after-requires c κs = (held _ _ (sym (c .before .before .before .has-depths .ensures) ∙ not-false _ (c .before .before .if1 .left)), enough _ _ _ (sym (c .before .has-operands .ensures) ∙ not-false _ (c .if2 .left)))
+after-requires c κs = (held _ _ (passed (c .before .before)), enough _ _ _ (room c))
 
 cast-t13 : tie.Need-cast-t13
 cast-t13 c = search needs
@@ -42,9 +55,8 @@ cast-t15 c = search needs
 
 returns-3 : tie.Need-returns-3
 returns-3 c =
-    told
-    (each _ _ (sym (c .before .before .before .before .before .before .before .has-depths .ensures) ∙ not-false _ (c .before .before .before .before .before .before .if1 .left)) (sym (c .before .before .before .before .before .has-operands .ensures) ∙ not-false _ (c .before .before .before .before .if2 .left)))
-    (c .before .before .before .after .ensures)
+    let tested = c .before .before .before .before in
+    told (each _ _ (passed (tested .before .before)) (room tested)) (c .before .before .before .after .ensures)
 
 pub probe-after-spec : {M : Type 1} → statement M
 probe-after-spec =

@@ -1,7 +1,9 @@
 -- `probe::depths::probe_jumped` meets its contract: the depths are carried over where they pass the tests.
-use mathlib.Core.Path.{_∙_, sym}
+use mathlib.Core.Bool.{true}
+use mathlib.Core.Path.{_≡_, _∙_, sym}
 use borrow.Author.Needs.{needs}
 use borrow.Author.Tests.{not-true, not-false}
+use Rattle.probe.specs.Depths.{holds}
 use Rattle.probe.proofs.Held.{held, untold, told}
 use Rattle.probe.proofs.depths.probe_jumped.Statement.{statement}
 use Rattle.probe.proofs.depths.probe_jumped.Tie as tie
@@ -15,8 +17,12 @@ nothing-requires c κs = search needs
 returns : tie.Need-returns
 returns c = untold (sym (c .before .before .has-depths .ensures) ∙ not-true _ (c .before .if1 .taken)) (c .nothing .ensures)
 
+-- past the test, the depths passed it
+passed : (c : tie.Else1) → holds (c .before .before .args .tag) (c .before .before .args .iterators) (c .before .before .args .handlers) ≡ true
+passed c = sym (c .before .has-depths .ensures) ∙ not-false _ (c .if1 .left)
+
 jumped-requires : tie.Need-jumped-requires
-jumped-requires c κs = held _ _ (sym (c .before .has-depths .ensures) ∙ not-false _ (c .if1 .left))
+jumped-requires c κs = held _ _ (passed c)
 
 cast-t13 : tie.Need-cast-t13
 cast-t13 c = search needs
@@ -28,7 +34,7 @@ cast-t15 : tie.Need-cast-t15
 cast-t15 c = search needs
 
 returns-2 : tie.Need-returns-2
-returns-2 c = told (sym (c .before .before .before .before .before .has-depths .ensures) ∙ not-false _ (c .before .before .before .before .if1 .left)) (c .before .before .before .jumped .ensures)
+returns-2 c = told (passed (c .before .before .before .before)) (c .before .before .before .jumped .ensures)
 
 pub probe-jumped-spec : {M : Type 1} → statement M
 probe-jumped-spec =

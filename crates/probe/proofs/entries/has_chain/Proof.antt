@@ -23,7 +23,7 @@ cast-i : tie.Need-cast-i
 cast-i c = search needs
 
 returns-2 : tie.Need-returns-2
-returns-2 c = chain-past _ _ _ _ (c .before .before .if1 .left) _ (c .before .read-u16 .ensures) (c .if2 .taken)
+returns-2 c = chain-past _ _ _ _ (c .before .before .if1 .left) _ (c .before .read-u16 .ensures) (omega arith)
 
 mul-words : tie.Need-mul-words
 mul-words c = search needs
@@ -50,7 +50,10 @@ lie-within-requires : tie.Need-lie-within-requires
 lie-within-requires c κs = search needs
 
 returns-3 : tie.Need-returns-3
-returns-3 c = c .lie-within .ensures ∙ chain-within _ _ _ _ (c .before .before .before .before .before .if1 .left) _ (c .before .before .before .before .read-u16 .ensures) (c .before .before .before .if2 .left)
+returns-3 c =
+    let past = c .before .before .before in
+    c .lie-within .ensures
+    ∙ chain-within _ _ _ _ (past .before .before .if1 .left) _ (past .before .read-u16 .ensures) (past .if2 .left)
 
 pub has-chain-spec : {M : Type 1} → statement M
 has-chain-spec =

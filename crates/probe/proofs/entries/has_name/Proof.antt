@@ -1,8 +1,10 @@
 -- `probe::entries::has_name` meets its contract: the index of a tag that asks for a name lies inside its instruction.
 use mathlib.Core.Path.{_∙_, sym}
+use Prim.Native.Nat.{_+_, _≤_}
 use native.Mathlib.Omega.{arith}
 use borrow.Author.Needs.{needs}
 use borrow.Author.Tests.{not-true, not-false}
+use lib.ListN.{length}
 use Rattle.rules.proofs.Operands.{tag-there}
 use Rattle.probe.proofs.Found.{no-name-asked, name-asked, name-index}
 use Rattle.probe.proofs.entries.has_name.Statement.{statement}
@@ -17,11 +19,15 @@ looks-at-name-requires c κs = search needs
 returns : tie.Need-returns
 returns c = no-name-asked _ _ _ (sym (c .before .looks-at-name .ensures) ∙ not-true _ (c .if1 .taken))
 
+-- the name that is asked for stands inside the instruction
+named : (c : tie.Else1) → c .before .before .before .before .before .args .at + 3 ≤ length (c .before .before .before .before .before .args .code .now)
+named c = name-index _ _ (c .before .before .before .before .before .pre) (sym (c .before .looks-at-name .ensures) ∙ not-false _ (c .if1 .left))
+
 add-read-u16 : tie.Need-add-read-u16
-add-read-u16 c = omega (arith, name-index _ _ (c .before .before .before .before .before .pre) (sym (c .before .looks-at-name .ensures) ∙ not-false _ (c .if1 .left)))
+add-read-u16 c = omega (arith, named c)
 
 read-u16-requires : tie.Need-read-u16-requires
-read-u16-requires c κs = omega (arith, name-index _ _ (c .before .before .before .before .before .pre) (sym (c .before .looks-at-name .ensures) ∙ not-false _ (c .if1 .left)))
+read-u16-requires c κs = omega (arith, named c)
 
 cast-i : tie.Need-cast-i
 cast-i c = search needs

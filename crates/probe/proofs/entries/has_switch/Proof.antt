@@ -49,7 +49,8 @@ lie-within-requires c κs = search needs
 
 returns-3 : tie.Need-returns-3
 returns-3 c =
-    cases-past _ _ _ _ _ (c .before .before .before .before .before .before .if1 .left) _ (c .before .before .before .before .before .read-u16 .ensures) (c .before .before .before .before .if2 .left)
+    let past = c .before .before .before .before in
+    cases-past _ _ _ _ _ (past .before .before .if1 .left) _ (past .before .read-u16 .ensures) (past .if2 .left)
     (sym (c .before .lie-within .ensures) ∙ not-true _ (c .if3 .taken))
 
 add-lie-within-2 : tie.Need-add-lie-within-2
@@ -75,9 +76,11 @@ lie-within-requires-2 c κs = search needs
 
 returns-4 : tie.Need-returns-4
 returns-4 c =
+    let cases = c .before .before .before in
+    let past = cases .before .before .before .before in
     c .lie-within2 .ensures
-    ∙ switch-within _ _ _ _ _ (c .before .before .before .before .before .before .before .before .before .if1 .left) _ (c .before .before .before .before .before .before .before .before .read-u16 .ensures) (c .before .before .before .before .before .before .before .if2 .left)
-    (sym (c .before .before .before .before .lie-within .ensures) ∙ not-false _ (c .before .before .before .if3 .left))
+    ∙ switch-within _ _ _ _ _ (past .before .before .if1 .left) _ (past .before .read-u16 .ensures) (past .if2 .left)
+    (sym (cases .before .lie-within .ensures) ∙ not-false _ (cases .if3 .left))
 
 pub has-switch-spec : {M : Type 1} → statement M
 has-switch-spec =

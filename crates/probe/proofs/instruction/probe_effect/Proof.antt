@@ -1,7 +1,9 @@
 -- `probe::instruction::probe_effect` meets its contract: the three numbers are carried over where the entries are there.
-use mathlib.Core.Path.{_∙_, sym}
+use mathlib.Core.Bool.{true}
+use mathlib.Core.Path.{_≡_, _∙_, sym}
 use borrow.Author.Needs.{needs}
 use borrow.Author.Tests.{not-true, not-false}
+use Rattle.probe.specs.Instruction.{isThere}
 use Rattle.probe.proofs.Across.{effect-untold, effect-told}
 use Rattle.probe.proofs.Ready.{ready}
 use Rattle.probe.proofs.instruction.probe_effect.Statement.{statement}
@@ -13,8 +15,18 @@ is-there-requires c κs = search needs
 returns : tie.Need-returns
 returns c = effect-untold _ _ _ _ _ _ _ _ (sym (c .before .is-there .ensures) ∙ not-true _ (c .if1 .taken))
 
+abbrev There : tie.Start → Type 0
+There s =
+    isThere (s .args .code .now) (s .args .at) (s .args .names .now) (s .args .chains .now) (s .args .steps .now)
+    (s .args .switches .now) (s .args .cases .now) (s .args .ranges .now)
+    ≡ true
+
+-- past the test, all is there
+there : (c : tie.Else1) → There (c .before .before .before .before .before .before .before .before .before)
+there c = sym (c .before .is-there .ensures) ∙ not-false _ (c .if1 .left)
+
 effect-requires : tie.Need-effect-requires
-effect-requires c κs = let r = ready _ _ _ _ _ _ _ _ (sym (c .before .is-there .ensures) ∙ not-false _ (c .if1 .left)) in (r .wide, r .chain-entry)
+effect-requires c κs = let r = ready _ _ _ _ _ _ _ _ (there c) in (r .wide, r .chain-entry)
 
 cast-t12 : tie.Need-cast-t12
 cast-t12 c = search needs
@@ -26,7 +38,7 @@ cast-t14 : tie.Need-cast-t14
 cast-t14 c = search needs
 
 returns-2 : tie.Need-returns-2
-returns-2 c = effect-told _ _ _ _ _ _ _ _ (sym (c .before .before .before .before .before .is-there .ensures) ∙ not-false _ (c .before .before .before .before .if1 .left)) (c .before .before .before .effect .ensures)
+returns-2 c = effect-told _ _ _ _ _ _ _ _ (there (c .before .before .before .before)) (c .before .before .before .effect .ensures)
 
 pub probe-effect-spec : {M : Type 1} → statement M
 probe-effect-spec =

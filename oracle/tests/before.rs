@@ -1,0 +1,242 @@
+//! Everything before the chunks, proved, against the oracle: the verdict, and marks word for word.
+
+use oracle::generator::{self, Case};
+use oracle::input::{Lent, Verdict, NO_CHUNK};
+use oracle::oracle as rules;
+
+#[repr(C)]
+#[derive(Clone, Copy)]
+struct Told {
+    kind: u32,
+    chunk: u32,
+    at: u64,
+    p: u64,
+    q: u64,
+    instructions: u64,
+    reached: u64,
+    taken: u64,
+}
+
+#[link(name = "probe", kind = "static")]
+extern "C" {
+    #[allow(clippy::too_many_arguments)]
+    fn probe_before(
+        rights: u32,
+        functions: u32,
+        constants: *const u32,
+        constants_len: usize,
+        names: *const u8,
+        names_len: usize,
+        tokens: usize,
+        op_assignments: usize,
+        chains: *const u32,
+        chains_len: usize,
+        steps: *const u32,
+        steps_len: usize,
+        switches: *const u32,
+        switches_len: usize,
+        cases: *const u32,
+        cases_len: usize,
+        ranges: *const u32,
+        ranges_len: usize,
+        code: *const u8,
+        code_len: usize,
+        chunks: usize,
+        marks: *mut u64,
+        marks_len: usize,
+        heights: usize,
+    ) -> Told;
+}
+
+/// What the proved function answers, in the oracle's words.
+fn ask(case: &Case, marks: &mut [u64]) -> Verdict {
+    let input = &case.input;
+    let told = unsafe {
+        probe_before(
+            input.rights,
+            input.functions,
+            input.constants.as_ptr(),
+            input.constants.len(),
+            input.names.as_ptr(),
+            input.names.len(),
+            input.tokens as usize,
+            input.op_assignments as usize,
+            input.chains.as_ptr(),
+            input.chains.len(),
+            input.steps.as_ptr(),
+            input.steps.len(),
+            input.switches.as_ptr(),
+            input.switches.len(),
+            input.cases.as_ptr(),
+            input.cases.len(),
+            input.ranges.as_ptr(),
+            input.ranges.len(),
+            input.code.as_ptr(),
+            input.code.len(),
+            input.chunks.len(),
+            marks.as_mut_ptr(),
+            marks.len(),
+            case.room.heights,
+        )
+    };
+    Verdict {
+        kind: told.kind,
+        chunk: told.chunk,
+        at: told.at,
+        p: told.p,
+        q: told.q,
+        instructions: told.instructions,
+        reached: told.reached,
+        taken: told.taken,
+    }
+}
+
+/// The oracle's verdict on a case, and what it leaves in marks that held this pattern.
+fn judge(case: &Case, marks: &mut [u64]) -> Verdict {
+    let room = case.room;
+    let (mut heights, mut records, mut work) = (
+        vec![0; room.heights],
+        vec![0; room.records],
+        vec![0; room.work],
+    );
+    let lent = Lent {
+        marks,
+        heights: &mut heights,
+        records: &mut records,
+        work: &mut work,
+    };
+    rules::verify(&case.input, lent)
+}
+
+/// A verdict that came before the chunks.
+fn is_early(verdict: &Verdict) -> bool {
+    verdict.kind != 0 && verdict.chunk == NO_CHUNK
+}
+
+const PASSED: Verdict = Verdict {
+    kind: 0,
+    chunk: NO_CHUNK,
+    at: 0,
+    p: 0,
+    q: 0,
+    instructions: 0,
+    reached: 0,
+    taken: 0,
+};
+
+/// The bits of the starts in so many words.
+fn starts(code: &[u8], words: usize) -> Vec<u64> {
+    let mut marks = vec![0; words];
+    for (at, _, _) in rules::listing(code).0 {
+        marks[at / 64] |= 1 << (at % 64);
+    }
+    marks
+}
+
+/// Marks between two guard words, all of a pattern that no answer leaves.
+fn patterned(words: usize) -> Vec<u64> {
+    (0..words as u64 + 2).map(|i| !(i << 7)).collect()
+}
+
+fn compare(case: &Case, name: &str) -> u32 {
+    let words = case.room.marks;
+    let (mut ours, mut theirs) = (patterned(words), patterned(words));
+    let told = ask(case, &mut ours[1..=words]);
+    let verdict = judge(case, &mut theirs[1..=words]);
+    let before = patterned(words);
+    assert_eq!(
+        (ours[0], ours[words + 1]),
+        (before[0], before[words + 1]),
+        "{name}: guards"
+    );
+    if is_early(&verdict) {
+        assert_eq!(told, verdict, "{name}");
+        assert_eq!(ours, theirs, "{name}: marks");
+    } else {
+        assert_eq!(told, PASSED, "{name}");
+        assert_eq!(
+            ours[1..=words],
+            starts(&case.input.code, words),
+            "{name}: marks"
+        );
+    }
+    told.kind
+}
+
+#[test]
+fn generated_cases() {
+    let mut kinds = [0u32; 7];
+    for seed in 0..200_000 {
+        kinds[compare(&generator::case(seed), &format!("seed {seed}")) as usize] += 1;
+    }
+    assert!(kinds.iter().all(|&count| count > 1_000), "{kinds:?}");
+}
+
+#[test]
+fn each_limit_around_its_bound() {
+    for (number, &most) in generator::LIMITS.iter().enumerate() {
+        for count in [most as usize - 1, most as usize, most as usize + 1] {
+            let input = generator::with_count(number + 1, count);
+            let room = generator::Room::ample(&input);
+            compare(
+                &Case { input, room },
+                &format!("limit {} at {count}", number + 1),
+            );
+        }
+    }
+}
+
+#[test]
+fn marks_and_heights_short_full_and_roomy() {
+    for seed in 0..3_000 {
+        let input = generator::case(seed).input;
+        let exact = generator::Room::exact(&input);
+        for marks in [exact.marks.saturating_sub(1), exact.marks, exact.marks + 5] {
+            for heights in [
+                exact.heights.saturating_sub(1),
+                exact.heights,
+                exact.heights + 3,
+            ] {
+                let room = generator::Room {
+                    marks,
+                    heights,
+                    ..exact
+                };
+                let case = Case {
+                    input: input.clone(),
+                    room,
+                };
+                compare(
+                    &case,
+                    &format!("seed {seed}, {marks} words, {heights} heights"),
+                );
+            }
+        }
+    }
+}
+
+#[test]
+fn bench_cases_before_the_chunks() {
+    let bench = |code: &[u8]| {
+        let input = oracle::input::Input {
+            code: code.to_vec(),
+            ..Default::default()
+        };
+        let room = generator::Room::ample(&input);
+        let mut marks = vec![7; room.marks];
+        ask(&Case { input, room }, &mut marks)
+    };
+    assert_eq!(bench(&[0x00]), Verdict { kind: 5, ..PASSED });
+    assert_eq!(bench(&[0x24, 0x00]), Verdict { kind: 5, ..PASSED });
+    let bad = bench(&[0x01, 0x07, 0x24, 0x00, 0x00]);
+    assert_eq!(
+        bad,
+        Verdict {
+            kind: 6,
+            at: 2,
+            p: 0,
+            q: 1,
+            ..PASSED
+        }
+    );
+}
