@@ -1,8 +1,9 @@
 //! Everything before the chunks, proved, against the oracle: the verdict, and marks word for word.
 
 use oracle::generator::{self, Case};
-use oracle::input::{Lent, Verdict, NO_CHUNK};
+use oracle::input::{Input, Lent, Verdict, NO_CHUNK};
 use oracle::oracle as rules;
+use std::collections::BTreeMap;
 
 #[repr(C)]
 #[derive(Clone, Copy)]
@@ -138,7 +139,7 @@ fn patterned(words: usize) -> Vec<u64> {
     (0..words as u64 + 2).map(|i| !(i << 7)).collect()
 }
 
-fn compare(case: &Case, name: &str) -> u32 {
+fn compare(case: &Case, name: &str) -> Verdict {
     let words = case.room.marks;
     let (mut ours, mut theirs) = (patterned(words), patterned(words));
     let told = ask(case, &mut ours[1..=words]);
@@ -160,16 +161,35 @@ fn compare(case: &Case, name: &str) -> u32 {
             "{name}: marks"
         );
     }
-    told.kind
+    told
+}
+
+/// Which test refused: the kind, and the limit, table, buffer or pool; for kind 4, 0 or 1 tells a
+/// constant from FUNCTION by whether there are constants at all.
+fn sort(case: &Case, told: &Verdict) -> (u32, u64) {
+    match told.kind {
+        1 | 2 => (told.kind, told.p),
+        3 | 6 => (told.kind, told.q),
+        4 => (4, u64::from(case.input.constants.is_empty())),
+        kind => (kind, 0),
+    }
 }
 
 #[test]
 fn generated_cases() {
-    let mut kinds = [0u32; 7];
+    let mut sorts = BTreeMap::new();
     for seed in 0..200_000 {
-        kinds[compare(&generator::case(seed), &format!("seed {seed}")) as usize] += 1;
+        let case = generator::case(seed);
+        let told = compare(&case, &format!("seed {seed}"));
+        *sorts.entry(sort(&case, &told)).or_insert(0u32) += 1;
     }
-    assert!(kinds.iter().all(|&count| count > 1_000), "{kinds:?}");
+    let expected = (1..=11).map(|limit| (1, limit));
+    let expected = expected.chain((1..=4).map(|table| (2, table)));
+    let expected = expected.chain([(0, 0), (3, 1), (3, 2), (4, 0), (4, 1), (5, 0)]);
+    for key in expected.chain((1..=7).map(|pool| (6, pool))) {
+        let count = sorts.get(&key).copied().unwrap_or(0);
+        assert!(count >= 10, "{key:?}: {count} of {sorts:?}");
+    }
 }
 
 #[test]
@@ -178,10 +198,47 @@ fn each_limit_around_its_bound() {
         for count in [most as usize - 1, most as usize, most as usize + 1] {
             let input = generator::with_count(number + 1, count);
             let room = generator::Room::ample(&input);
-            compare(
+            let told = compare(
                 &Case { input, room },
                 &format!("limit {} at {count}", number + 1),
             );
+            let exceeded = count > most as usize;
+            assert_eq!(
+                (told.kind, told.p) == (1, number as u64 + 1),
+                exceeded,
+                "{told:?}"
+            );
+        }
+    }
+}
+
+/// A span that ends with its table, one past it that names nothing, and one that wraps in 32 bits.
+#[test]
+fn spans_at_the_ends_of_their_tables() {
+    let spans = [
+        (2, 0, 0),
+        (3, 0, 2),
+        (1, 1, 0),
+        (1, 2, 2),
+        (u32::MAX, 1, 2),
+        (u32::MAX, 2, 2),
+    ];
+    for (first, count, kind) in spans {
+        let chain = vec![3, 0, 0, 0, 0, first, count];
+        let cases = vec![first, count, 0, 0, 0];
+        let ranges = vec![0, 0, first, count, 0];
+        for (chains, switches) in [(chain, vec![]), (vec![], cases), (vec![], ranges)] {
+            let input = Input {
+                chains,
+                switches,
+                steps: vec![0; 8],
+                cases: vec![0; 4],
+                ranges: vec![0; 2],
+                ..Default::default()
+            };
+            let room = generator::Room::ample(&input);
+            let told = compare(&Case { input, room }, &format!("{first} and {count}"));
+            assert_eq!(told.kind, kind, "{first} and {count}");
         }
     }
 }
@@ -191,7 +248,11 @@ fn marks_and_heights_short_full_and_roomy() {
     for seed in 0..3_000 {
         let input = generator::case(seed).input;
         let exact = generator::Room::exact(&input);
-        for marks in [exact.marks.saturating_sub(1), exact.marks, exact.marks + 5] {
+        for marks in [
+            exact.marks.saturating_sub(1),
+            exact.marks,
+            exact.marks + 300,
+        ] {
             for heights in [
                 exact.heights.saturating_sub(1),
                 exact.heights,
@@ -218,13 +279,12 @@ fn marks_and_heights_short_full_and_roomy() {
 #[test]
 fn bench_cases_before_the_chunks() {
     let bench = |code: &[u8]| {
-        let input = oracle::input::Input {
+        let input = Input {
             code: code.to_vec(),
             ..Default::default()
         };
         let room = generator::Room::ample(&input);
-        let mut marks = vec![7; room.marks];
-        ask(&Case { input, room }, &mut marks)
+        compare(&Case { input, room }, &format!("{code:x?}"))
     };
     assert_eq!(bench(&[0x00]), Verdict { kind: 5, ..PASSED });
     assert_eq!(bench(&[0x24, 0x00]), Verdict { kind: 5, ..PASSED });

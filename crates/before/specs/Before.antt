@@ -14,6 +14,8 @@ use Rattle.listing.specs.Walk.{walk}
 use Rattle.pools.specs.Sizes.{firstExceeded}
 use Rattle.pools.specs.Tables.{firstBad}
 use Rattle.pools.specs.declared.limits.Sizes.{Sizes}
+use Rattle.rules.specs.Answer.{refusal, noChunk, numbered}
+use Rattle.rules.specs.declared.verdict.Verdict.{Verdict}
 use Rattle.rules.specs.Rights.{lacking}
 use Rattle.rules.specs.declared.Answer.{Answer}
 use Rattle.rules.specs.declared.Answer.the-variants.{TooLarge, BadTable, NoRoom, MissingCaps, Undecodable, BadIndex}
@@ -109,3 +111,8 @@ module _ (I : Input) where
 
   unfoldable pub beforeChunks : (marks heights : ℕ) → Test
   beforeChunks marks heights = first (beforeStores marks heights ∷ afterStores ∷ [])
+
+-- an outcome in document 01's numbers: kind 0 with nothing counted yet, or the answer's
+unfoldable pub verdictOf : Test → Verdict
+verdictOf none = refusal 0 noChunk 0 0 0
+verdictOf (some answer) = numbered noChunk answer
