@@ -1,0 +1,5 @@
+-- The laws that proofs cite.
+pub mod Targets
+pub mod Store
+pub mod Moment
+pub mod Parts

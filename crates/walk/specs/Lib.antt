@@ -1,0 +1,4 @@
+-- The definitions that contracts and laws cite.
+pub mod Ready
+pub mod Records
+pub mod Units

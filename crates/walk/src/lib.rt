@@ -1,0 +1,35 @@
+// One chunk's units: an instruction listed, an item taken; records and work as lent words.
+// Each unit is one step of the definition of the walk. Every word of records and work is fixed by each contract.
+// Left to `verify`: the loops over these units, the order of the chunks, and the memory at the end of the call.
+pub mod item;
+
+use rules::Answer;
+use rules::Depths;
+
+// A chunk that is being walked: where it starts and ends, the index in records from which depths are kept, and how many keys
+// stand before that.
+pub struct Room {
+    pub entry: u32,
+    pub end: u32,
+    pub base: usize,
+    pub keys: usize,
+}
+
+// The item in hand, and what one item hands to the next: its place and the depths there; how many keys are below the place;
+// how many items wait in work; the instructions entered, the items taken, and the largest number of operands.
+pub struct Hand {
+    pub place: u32,
+    pub depths: Depths,
+    pub slot: usize,
+    pub waiting: usize,
+    pub reached: u64,
+    pub taken: u64,
+    pub height: u32,
+}
+
+// What taking an item comes to: the next one in hand; none is left; or a refusal.
+pub enum Turn {
+    Next(Hand),
+    Done(Hand),
+    Refused(Answer),
+}
