@@ -48,11 +48,11 @@ module _ (table : ℕ → ℕ) (code : List ℕ) (end : ℕ) where
           let p : 0 < widthBy table code at = omega (arith, u .whole) in
           omega (arith, u .whole, width-there table code at p .within)
 
-  before-on : (at : ℕ) → 0 < cut at → startsBefore table code end at ≡ at ∷ startsBefore table code end (at + cut at)
+  pub before-on : (at : ℕ) → 0 < cut at → startsBefore table code end at ≡ at ∷ startsBefore table code end (at + cut at)
   unfolding startsBefore
   before-on at h = walk-on _∷_ (λ i. []) cut-within at h
 
-  before-stop : (at : ℕ) → cut at ≡ 0 → startsBefore table code end at ≡ []
+  pub before-stop : (at : ℕ) → cut at ≡ 0 → startsBefore table code end at ≡ []
   unfolding startsBefore
   before-stop at e = walk-stop _∷_ (λ i. []) cut-within at e
 

@@ -3,3 +3,6 @@ pub mod Targets
 pub mod Store
 pub mod Moment
 pub mod Parts
+pub mod Turns
+pub mod Leaving
+pub mod Took

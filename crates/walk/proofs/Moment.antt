@@ -27,11 +27,15 @@ use Rattle.rules.proofs.Turn.{New}
 use Rattle.words.specs.Stack.{items}
 use Rattle.words.proofs.Items.{length-items}
 use Rattle.walk.specs.declared.Hand.{Hand}
+use Rattle.walk.specs.declared.Room.{Room}
 use Rattle.walk.specs.Records.{seenStore, laid}
-use Rattle.walk.specs.Units.{itemOf, bookOf, Going}
+use Rattle.walk.specs.Units.{itemOf, bookOf, spanOf, Going}
 use Rattle.walk.proofs.Store.{Fit, faithful, laid-fit, laid-empty}
 
-module _ (S : Script) (span : Span) (records work : List ℕ) (B : BeforeWalk S span (length records) (length work)) (h : Hand) (G : Going S span h records work) where
+module _ (S : Script) (room : Room) (records work : List ℕ) (B : BeforeWalk S (spanOf room) (length records) (length work)) (h : Hand) (G : Going S room h records work) where
+  abbrev span : Span
+  span = spanOf room
+
   -- what the walk over the log knows of this moment
   over-log : (l : Book Log) × (walk (machine S span) log (h .taken) [] ≡ unfinished (itemOf h ∷ items work (h .waiting)) l) × Tells (machine S span) (seenStore S span) (Fit S span (length records)) (bookOf h records) l
   over-log =

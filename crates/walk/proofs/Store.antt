@@ -26,7 +26,7 @@ take-sets : (vs l : List ℕ) (n i : ℕ) → n ≤ i → take n (sets l i vs) �
 take-sets [] l n i h = refl
 take-sets (v ∷ vs) l n i h = take-sets vs (set l i v) n (suc i) (omega arith) ∙ take-set-le n l i v h
 
-take-note : (words : List ℕ) (n at : ℕ) (d : Depths) → n ≤ at → take n (noteAt words at d) ≡ take n words
+pub take-note : (words : List ℕ) (n at : ℕ) (d : Depths) → n ≤ at → take n (noteAt words at d) ≡ take n words
 unfolding noteAt
 take-note words n at d h = take-sets ((d .operands + 1) ∷ d .iterators ∷ d .handlers ∷ []) words n at h
 

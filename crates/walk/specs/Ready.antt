@@ -1,9 +1,12 @@
 -- What a script is that passed everything before the chunks, as far as a chunk looks at it. Document 01, "Order of the tests":
 -- what stands before "chunks upward" there, and "At most: code 65,536 bytes".
-use mathlib.Core.List.{List, []}
+use mathlib.Core.Bool.{true, _||_}
+use mathlib.Core.List.{List}
 use mathlib.Core.Path.{_≡_}
 use Prim.Native.Nat.{ℕ, _+_, _≤_, _<_}
+use lib.Dec.{eqb}
 use lib.ListN.{length}
+use Rattle.code.specs.Layout.{among}
 use Rattle.code.specs.Width.{widthOf}
 use Rattle.listing.specs.Listing.{Start, starts, stopBy}
 use Rattle.marks.specs.Marks.{Holds}
@@ -11,38 +14,32 @@ use Rattle.pools.specs.Pools.{whole, chainAt, switchAt}
 use Rattle.rules.specs.Script.{Script}
 use Rattle.rules.specs.There.{NameThere, ChainThere, SwitchThere}
 
--- The script that the parameters of a call lend. A chunk does not look at constants, tokens and op-assignments.
-abbrev pub script : (rights : ℕ) (names chains steps switches cases ranges code : List ℕ) → Script
-script rights names chains steps switches cases ranges code = record {
-  code = code;
-  pools = record {
-    constants = [];
-    names = names;
-    tokens = 0;
-    opAssignments = 0;
-    chains = chains;
-    steps = steps;
-    switches = switches;
-    cases = cases;
-    ranges = ranges;
-  };
-  rights = rights;
-}
+-- What listing a chunk builds on: every byte of the code belongs to an instruction, each switch that one names is there with
+-- its spans in their tables, and none of the three is above its limit.
+pub record Listable (code switches cases ranges : List ℕ) : Type 0 where
+  pub decoded : stopBy widthOf code 0 ≡ length code
+  pub switch-there : (p : ℕ) → Start widthOf code p → SwitchThere code switches cases ranges p
+  pub small : length code ≤ 65536
+  pub few-cases : whole 2 cases ≤ 65536
+  pub few-ranges : length ranges ≤ 65536
 
--- Every byte of the code belongs to an instruction, what an instruction names is there, and the spans of each entry lie in
--- their tables.
+-- a chunk's own tests, 7 and 8, passed
+pub record InCode (code : List ℕ) (entry end : ℕ) : Type 0 where
+  pub in-order : entry ≤ end
+  pub in-code : end ≤ length code
+  pub aligned : among entry (starts code) || eqb entry (length code) ≡ true
+
+-- And what its walk builds on: whatever an instruction names is there, and the spans of each entry lie in their tables.
 pub record Ready (S : Script) : Type 0 where
-  pub decoded : stopBy widthOf (S .code) 0 ≡ length (S .code)
+  pub listable : Listable (S .code) (S .pools .switches) (S .pools .cases) (S .pools .ranges)
   pub name-there : (p : ℕ) → Start widthOf (S .code) p → NameThere (S .code) (S .pools .names) p
   pub chain-there : (p : ℕ) → Start widthOf (S .code) p → ChainThere (S .code) (S .pools .chains) (S .pools .steps) p
-  pub switch-there : (p : ℕ) → Start widthOf (S .code) p → SwitchThere (S .code) (S .pools .switches) (S .pools .cases) (S .pools .ranges) p
   pub steps-within : (i : ℕ) → i < whole 7 (S .pools .chains)
       → chainAt (S .pools .chains) i .firstStep + chainAt (S .pools .chains) i .steps ≤ whole 4 (S .pools .steps)
   pub cases-within : (i : ℕ) → i < whole 5 (S .pools .switches)
       → switchAt (S .pools .switches) i .firstCase + switchAt (S .pools .switches) i .cases ≤ whole 2 (S .pools .cases)
   pub ranges-within : (i : ℕ) → i < whole 5 (S .pools .switches)
       → switchAt (S .pools .switches) i .firstRange + switchAt (S .pools .switches) i .ranges ≤ length (S .pools .ranges)
-  pub small : length (S .code) ≤ 65536
 
 -- The marks hold the starts of the code, and nothing else.
 abbrev pub Marked : List ℕ → List ℕ → Type 0

@@ -1,23 +1,30 @@
 -- One item taken, in the code's words and in those of the walk. Document 01, "Order of the tests": "takes the work item pushed
 -- last".
+use mathlib.Core.Bool.{true, false, _&&_, cond}
 use mathlib.Core.List.{List, [], _∷_, map}
+use mathlib.Core.Option.{none}
 use mathlib.Core.Path.{_≡_}
-use Prim.Native.Nat.{ℕ, _+_}
-use lib.ListN.{length}
-use Rattle.order.specs.Order.{below}
+use Prim.Native.Nat.{ℕ, _+_, _*_, _^_, _≤_, _<_, max}
+use lib.Dec.{ltb, eqb}
+use lib.ListN.{length, getD, take}
+use Rattle.order.specs.Order.{Rising, below}
 use Rattle.rules.specs.declared.Answer.{Answer}
 use Rattle.rules.specs.declared.Depths.{Depths}
+use Rattle.rules.specs.Chunk.{BeforeWalk}
 use Rattle.rules.specs.Depths.{Item}
 use Rattle.rules.specs.Edges.{T}
 use Rattle.rules.specs.Rule.{machine}
 use Rattle.rules.specs.Script.{Script, Span}
-use Rattle.rules.specs.Walk.{Book, goes-on, stops, unfinished, turn, walk}
+use Rattle.rules.specs.Walk.{Book, goes-on, stops, unfinished, seen, turn, walk}
 use Rattle.rules.specs.Walk as definition
+use Rattle.ruling.specs.declared.Edges.{Edges}
+use Rattle.words.specs.Seen.{noteAt}
 use Rattle.words.specs.Stack.{items, putAll, Clear}
 use Rattle.walk.specs.declared.Hand.{Hand}
 use Rattle.walk.specs.declared.Room.{Room}
 use Rattle.walk.specs.declared.Turn.{Turn}
 use Rattle.walk.specs.declared.Turn.the-variants.{Next, Done, Refused}
+use Rattle.walk.specs.Ready.{Ready, Marked}
 use Rattle.walk.specs.Records.{keys, seenStore, laid}
 
 -- the item in hand, and the book
@@ -70,31 +77,95 @@ Back keys h work (Next next) work′ = TakenBack keys h work next work′
 Back keys h work (Done last) work′ = NoneBack h work last work′
 Back keys h work (Refused a) work′ = ⊥
 
+-- an item that is dropped, and one that enters an instruction which leaves so many operands, where so many items wait then
+abbrev pub droppedHand : Hand → Hand
+droppedHand h = record {
+  place = h .place;
+  depths = h .depths;
+  slot = h .slot;
+  waiting = h .waiting;
+  reached = h .reached;
+  taken = h .taken + 1;
+  height = h .height;
+}
+
+abbrev pub enteredHand : Hand → (post waiting : ℕ) → Hand
+enteredHand h post waiting = record {
+  place = h .place;
+  depths = h .depths;
+  slot = h .slot;
+  waiting = waiting;
+  reached = h .reached + 1;
+  taken = h .taken + 1;
+  height = max (h .height) (max (h .depths .operands) post);
+}
+
+-- the words with the depths in hand noted, where the place is a key
+abbrev pub noted : Room → Hand → List ℕ → List ℕ
+noted room h records =
+    cond (ltb (h .slot) (room .keys) && eqb (getD records (h .slot) 0) (h .place)) (noteAt records (room .base + h .slot * 3) (h .depths)) records
+
+-- what leaving an instruction builds on: room for its note and its jumps, a pointer that is not past the next place, and numbers
+-- that fit
+pub record Leaves (room : Room) (h : Hand) (next : ℕ) (targets records work : List ℕ) : Type 0 where
+  pub keys-room : room .keys ≤ length records
+  pub notes-room : room .base + room .keys * 3 ≤ length records
+  pub keys-behind : room .keys ≤ room .base
+  pub rises : Rising (take (room .keys) records)
+  pub along : h .slot ≤ below (take (room .keys) records) next
+  pub jumps-room : (h .waiting + length targets) * 4 ≤ length work
+  pub clear : Clear work (h .waiting)
+  pub operands-fit : h .depths .operands + 1 < 2 ^ 32
+  pub reached-fits : h .reached + 1 < 2 ^ 64
+  pub taken-fits : h .taken + 1 < 2 ^ 64
+
+-- what it comes to: the depths noted, the jumps pushed, and the next place in hand or an item taken back
+pub record Left (room : Room) (h : Hand) (edges : Edges) (targets records work : List ℕ) (r : Turn) (records′ work′ : List ℕ) : Type 0 where
+  pub words : records′ ≡ noted room h records
+  pub goes : edges .falls ≡ true
+      → (r ≡ Next (fallen (take (room .keys) records) (enteredHand h (edges .after .operands) (h .waiting + length targets)) (edges .next) (edges .after)))
+        × (work′ ≡ putAll work (h .waiting) (jumpsTo (edges .jumped) targets))
+  pub back : edges .falls ≡ false
+      → Back (take (room .keys) records) (enteredHand h (edges .after .operands) (h .waiting + length targets))
+        (putAll work (h .waiting) (jumpsTo (edges .jumped) targets)) r work′
+
 -- ---- a turn
 
-module _ (S : Script) (span : Span) where
-  -- the code's struct tells this chunk
-  pub record IsRoom (room : Room) : Type 0 where
-    pub entry : room .entry ≡ span .entry
-    pub end : room .end ≡ span .end
-    pub base : room .base ≡ 1 + T S span
-    pub keys : room .keys ≡ length (keys S span)
+-- the chunk of the code's struct; a walk does not look at the declared height
+abbrev pub spanOf : Room → Span
+spanOf room = record { entry = room .entry; end = room .end; declared = 0 }
+
+module _ (S : Script) (room : Room) where
+  -- one turn of the walk from the item in hand
+  abbrev pub turnOf : Hand → (records work : List ℕ) → definition.Turn Answer (List ℕ)
+  turnOf h records work =
+      turn (machine S (spanOf room)) (seenStore S (spanOf room)) (itemOf h) (items work (h .waiting)) (bookOf h records)
 
   -- the walk has come to the item in hand, with these words of records and of work
   pub record Going (h : Hand) (records work : List ℕ) : Type 0 where
-    pub ran : walk (machine S span) (seenStore S span) (h .taken) (laid S span (length records))
+    pub ran : walk (machine S (spanOf room)) (seenStore S (spanOf room)) (h .taken) (laid S (spanOf room) (length records))
         ≡ unfinished (itemOf h ∷ items work (h .waiting)) (bookOf h records)
-    pub slot : h .slot ≡ below (keys S span) (h .place)
+    pub slot : h .slot ≡ below (keys S (spanOf room)) (h .place)
     pub clear : Clear work (h .waiting)
 
-  -- one turn of the walk from there
-  abbrev pub turnOf : Hand → (records work : List ℕ) → definition.Turn Answer (List ℕ)
-  turnOf h records work = turn (machine S span) (seenStore S span) (itemOf h) (items work (h .waiting)) (bookOf h records)
+  -- what taking an item builds on: all that comes before the walk, and the walk so far
+  pub record AtItem (h : Hand) (marks records work : List ℕ) : Type 0 where
+    pub ready : Ready S
+    pub marked : Marked marks (S .code)
+    pub before : BeforeWalk S (spanOf room) (length records) (length work)
+    pub base : room .base ≡ 1 + T S (spanOf room)
+    pub keyed : room .keys ≡ length (keys S (spanOf room))
+    pub going : Going h records work
+
+  -- the item is before the end, and its place was not seen
+  pub record Unseen (h : Hand) (records : List ℕ) : Type 0 where
+    pub below-end : h .place < room .end
+    pub unseen : seen (machine S (spanOf room)) (seenStore S (spanOf room)) (h .place) records ≡ none
 
   -- what a turn comes to: the next item in hand, with what waits and what is noted in the words,
   pub record GoesOn (t : definition.Turn Answer (List ℕ)) (h : Hand) (records work : List ℕ) : Type 0 where
     pub turned : t ≡ goes-on (itemOf h ∷ items work (h .waiting)) (bookOf h records)
-    pub slot : h .slot ≡ below (keys S span) (h .place)
+    pub slot : h .slot ≡ below (keys S (spanOf room)) (h .place)
     pub clear : Clear work (h .waiting)
 
   -- no item is left,
@@ -108,7 +179,10 @@ module _ (S : Script) (span : Span) where
     pub same-records : records′ ≡ records
     pub same-work : work′ ≡ work
 
+  abbrev pub Comes : definition.Turn Answer (List ℕ) → (records work : List ℕ) → Turn → (records′ work′ : List ℕ) → Type 0
+  Comes t records work (Next next) records′ work′ = GoesOn t next records′ work′
+  Comes t records work (Done last) records′ work′ = Ends t last records′ work′
+  Comes t records work (Refused a) records′ work′ = Stops t a records work records′ work′
+
   abbrev pub Took : Hand → (records work : List ℕ) → Turn → (records′ work′ : List ℕ) → Type 0
-  Took h records work (Next next) records′ work′ = GoesOn (turnOf h records work) next records′ work′
-  Took h records work (Done last) records′ work′ = Ends (turnOf h records work) last records′ work′
-  Took h records work (Refused a) records′ work′ = Stops (turnOf h records work) a records work records′ work′
+  Took h records work = Comes (turnOf h records work) records work

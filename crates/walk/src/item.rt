@@ -2,7 +2,7 @@
 ghost use mathlib.Core.Bool.{cond, _&&_};
 ghost use mathlib.Core.Option.{none};
 ghost use mathlib.Core.Path.{_≡_};
-ghost use Prim.Native.Nat.{_+_, _*_, _^_, _≤_, _<_};
+ghost use Prim.Native.Nat.{_+_, _*_, _^_, _≤_, _<_, max};
 ghost use lib.Dec.{ltb, eqb};
 ghost use lib.ListN.{length, getD, take};
 ghost use Rattle.code.specs.Width.{widthAt};
@@ -11,11 +11,17 @@ ghost use Rattle.rules.specs.Edges.{targetsOf};
 ghost use Rattle.rules.specs.There.{SwitchThere};
 ghost use Rattle.words.specs.Seen.{told, seenAt, noteAt};
 ghost use Rattle.words.specs.Stack.{Clear};
-ghost use Rattle.walk.specs.Units.{Pushed, fallen, Back};
+ghost use Rattle.walk.specs.Units.{Pushed, fallen, Back, Leaves, Left};
+ghost use Rattle.ruling.specs.Ruling.{script};
+ghost use Rattle.walk.specs.Units.{droppedHand, enteredHand, AtItem, Unseen, Took};
 use crate::Hand;
 use crate::Room;
 use crate::Turn;
+use rules::Answer;
 use rules::Depths;
+use ruling::Edges;
+use ruling::Outcome;
+use ruling::Ruling;
 use words::seen;
 use words::seen::Seen;
 use words::stack;
@@ -136,4 +142,175 @@ fn take_back(hand: Hand, records: &[u32], keys: usize, work: &mut [u32]) -> Turn
         taken: hand.taken,
         height: hand.height,
     })
+}
+
+// An item that is dropped is taken all the same.
+fn drop_item(hand: Hand) -> Hand
+    requires { ⌜ hand .taken + 1 < 2 ^ 64 ⌝ }
+    ensures { λ r. ⌜ r ≡ droppedHand hand ⌝ }
+{
+    let depths = hand.depths;
+    Hand {
+        place: hand.place,
+        depths,
+        slot: hand.slot,
+        waiting: hand.waiting,
+        reached: hand.reached,
+        taken: hand.taken + 1,
+        height: hand.height,
+    }
+}
+
+fn larger(a: u32, b: u32) -> u32
+    ensures { λ r. ⌜ r ≡ max a b ⌝ }
+{
+    if a < b { b } else { a }
+}
+
+// An item enters an instruction that leaves so many operands: it counts, and the operands before and after it do.
+fn enter_item(hand: Hand, post: u32, waiting: usize) -> Hand
+    requires { ⌜ hand .taken + 1 < 2 ^ 64 ⌝ }
+    requires { ⌜ hand .reached + 1 < 2 ^ 64 ⌝ }
+    ensures { λ r. ⌜ r ≡ enteredHand hand post waiting ⌝ }
+{
+    let depths = hand.depths;
+    let most = larger(depths.operands, post);
+    Hand {
+        place: hand.place,
+        depths,
+        slot: hand.slot,
+        waiting,
+        reached: hand.reached + 1,
+        taken: hand.taken + 1,
+        height: larger(hand.height, most),
+    }
+}
+
+// The edges of an instruction whose tests have all passed: its depths are noted, its jumps pushed, and the next item is what
+// falls through, or else the one pushed last.
+fn leave(
+    code: &[u8],
+    switches: &[u32],
+    cases: &[u32],
+    ranges: &[u32],
+    room: Room,
+    hand: Hand,
+    edges: Edges,
+    records: &mut [u32],
+    work: &mut [u32],
+) -> Turn
+    requires { ⌜ 0 < widthAt (now code) (hand .place) ⌝ }
+    requires { ⌜ SwitchThere (now code) (now switches) (now cases) (now ranges) (hand .place) ⌝ }
+    requires { ⌜ Leaves room hand (edges .next) (targetsOf (now code) (now switches) (now cases) (now ranges) (hand .place)) (now records) (now work) ⌝ }
+    ensures { λ r. ⌜ Left room hand edges (targetsOf (now (code .entry)) (now (switches .entry)) (now (cases .entry)) (now (ranges .entry)) (hand .place))
+        (now (records .entry)) (now (work .entry)) r (now (records .exit)) (now (work .exit)) ⌝ }
+{
+    let after = edges.after;
+    let place = hand.place;
+    let depths = hand.depths;
+    note_at(records, room, hand.slot, place, depths);
+    let jumped = edges.jumped;
+    let waiting = push_jumps(
+        code,
+        place as usize,
+        switches,
+        cases,
+        ranges,
+        jumped,
+        hand.waiting,
+        work,
+    );
+    let entered = enter_item(hand, after.operands, waiting);
+    if edges.falls {
+        let next = fall_to(entered, edges.next, after, records, room.keys);
+        return Turn::Next(next);
+    }
+    take_back(entered, records, room.keys, work)
+}
+
+// An item at a place that was not seen before: its rule, the tests of its jumps, and its edges.
+fn enter(
+    rights: u32,
+    names: &[u8],
+    chains: &[u32],
+    steps: &[u32],
+    switches: &[u32],
+    cases: &[u32],
+    ranges: &[u32],
+    code: &[u8],
+    marks: &[u64],
+    room: Room,
+    hand: Hand,
+    records: &mut [u32],
+    work: &mut [u32],
+) -> Turn
+    requires { ⌜ AtItem (script rights (now names) (now chains) (now steps) (now switches) (now cases) (now ranges) (now code))
+        room hand (now marks) (now records) (now work) ⌝ }
+    requires { ⌜ Unseen (script rights (now names) (now chains) (now steps) (now switches) (now cases) (now ranges) (now code))
+        room hand (now records) ⌝ }
+    ensures { λ r. ⌜ Took
+        (script rights (now (names .entry)) (now (chains .entry)) (now (steps .entry)) (now (switches .entry)) (now (cases .entry))
+        (now (ranges .entry)) (now (code .entry)))
+        room hand (now (records .entry)) (now (work .entry)) r (now (records .exit)) (now (work .exit)) ⌝ }
+{
+    let at = hand.place as usize;
+    let depths = hand.depths;
+    let ruling = ruling::rule_of(rights, names, chains, steps, code, at, room.end, depths);
+    match ruling {
+        Ruling::Denies(answer) => Turn::Refused(answer),
+        Ruling::Gives(edges) => {
+            let good = ruling::check_jumps(
+                code, at, switches, cases, ranges, marks, room.entry, room.end,
+            );
+            if let Outcome::Refused(answer) = good {
+                return Turn::Refused(answer);
+            }
+            leave(code, switches, cases, ranges, room, hand, edges, records, work)
+        }
+    }
+}
+
+// One item: 13 at or past the end; dropped, or 11, at a place seen before; else its instruction is entered.
+pub fn take_item(
+    rights: u32,
+    names: &[u8],
+    chains: &[u32],
+    steps: &[u32],
+    switches: &[u32],
+    cases: &[u32],
+    ranges: &[u32],
+    code: &[u8],
+    marks: &[u64],
+    room: Room,
+    hand: Hand,
+    records: &mut [u32],
+    work: &mut [u32],
+) -> Turn
+    requires { ⌜ AtItem (script rights (now names) (now chains) (now steps) (now switches) (now cases) (now ranges) (now code))
+        room hand (now marks) (now records) (now work) ⌝ }
+    ensures { λ r. ⌜ Took
+        (script rights (now (names .entry)) (now (chains .entry)) (now (steps .entry)) (now (switches .entry)) (now (cases .entry))
+        (now (ranges .entry)) (now (code .entry)))
+        room hand (now (records .entry)) (now (work .entry)) r (now (records .exit)) (now (work .exit)) ⌝ }
+{
+    if room.end <= hand.place {
+        return Turn::Refused(Answer::FallsOffTheEnd);
+    }
+    let seen = seen_at(records, room, hand.slot, hand.place);
+    match seen {
+        Seen::Never => enter(
+            rights, names, chains, steps, switches, cases, ranges, code, marks, room, hand, records, work,
+        ),
+        Seen::With(expected) => {
+            let found = hand.depths;
+            if seen::agree(expected, found) {
+                return take_back(drop_item(hand), records, room.keys, work);
+            }
+            Turn::Refused(Answer::DepthConflict {
+                at: hand.place as u64,
+                expected,
+                found,
+            })
+        }
+    }
 }

@@ -1,0 +1,86 @@
+-- The jumps of an instruction in turn: what is left to judge from the target at hand on is what there was to judge from the
+-- first.
+use mathlib.Core.List.{List, _∷_, map}
+use mathlib.Core.Option.{Option, none}
+use mathlib.Core.Path.{_≡_, refl, sym, ap, _∙_}
+use Prim.Native.Nat.{ℕ, _+_, _≤_, _<_}
+use native.Mathlib.Numerals.{add-one}
+use native.Mathlib.Omega.{arith}
+use lib.ListN.{length, getD, drop}
+use lib.Seq.{drop-cons, drop-length}
+use Rattle.listing.specs.Listing.{starts}
+use Rattle.marks.specs.Marks.{Holds}
+use Rattle.rules.specs.declared.Answer.{Answer}
+use Rattle.rules.specs.declared.Depths.{Depths}
+use Rattle.rules.specs.Depths.{Item}
+use Rattle.rules.specs.Rule.{judge}
+use Rattle.rules.specs.Script.{Script, Span}
+use Rattle.rules.specs.Walk.{firstBad}
+use Rattle.ruling.specs.declared.Outcome.{Outcome}
+use Rattle.ruling.specs.declared.Outcome.the-variants.{Passed, Refused}
+use Rattle.ruling.specs.Ruling.{told}
+
+abbrev span : (entry end declared : ℕ) → Span
+span entry end declared = record { entry = entry; end = end; declared = declared }
+
+-- a jump to each of these targets, with the same depths
+abbrev jumps : Depths → List ℕ → List Item
+jumps d targets = map (λ (t : ℕ). record { place = t; depths = d }) targets
+
+-- one jump, then those after it
+module _ (test : ℕ → Option Answer) (d : Depths) {t : ℕ} (ts : List ℕ) {r : Outcome} (e : told r ≡ test t) where
+  goes-on : r ≡ Passed → firstBad test (jumps d (t ∷ ts)) ≡ firstBad test (jumps d ts)
+  unfolding firstBad told
+  goes-on p = rw (← e, p)
+
+  stops : {answer : Answer} → r ≡ Refused answer → told r ≡ firstBad test (jumps d (t ∷ ts))
+  unfolding firstBad told
+  stops p = rw (← e, p)
+
+-- what is told of a jump, in whatever script's starts the marks hold
+abbrev pub Told : (marks : List ℕ) (entry end at target : ℕ) → Outcome → Type 0
+Told marks entry end at target r =
+    (S : Script) (declared : ℕ) → Holds marks (starts (S .code)) → told r ≡ judge S (span entry end declared) at target
+
+-- the targets before the one at hand are good
+pub record Good (marks targets : List ℕ) (entry end at k : ℕ) : Type 0 where
+  pub within : k ≤ length targets
+  pub left : (S : Script) (declared : ℕ) (d : Depths) → Holds marks (starts (S .code))
+      → firstBad (judge S (span entry end declared) at) (jumps d (drop k targets))
+      ≡ firstBad (judge S (span entry end declared) at) (jumps d targets)
+
+pub none-yet : (marks targets : List ℕ) (entry end at : ℕ) → Good marks targets entry end at 0
+none-yet marks targets entry end at = record { within = omega arith; left = λ S declared d h. refl }
+
+module _ {marks targets : List ℕ} {entry end at k : ℕ} (inv : Good marks targets entry end at k) where
+  -- past the last one none is refused
+  pub all-good : length targets ≤ k → (S : Script) (declared : ℕ) (d : Depths) → Holds marks (starts (S .code))
+      → none ≡ firstBad (judge S (span entry end declared) at) (jumps d targets)
+  unfolding firstBad
+  all-good l S declared d h =
+      let past : k ≡ length targets = omega arith in
+      rw (past, drop-length) at (inv .left S declared d h)
+
+  module _ (l : k < length targets) {t : ℕ} (e : t ≡ getD targets k 0) where
+    -- the one at hand, then those after it
+    here : t ∷ drop (k + 1) targets ≡ drop k targets
+    here = rw (e, add-one, drop-cons targets k 0 l)
+
+    in-turn : (S : Script) (declared : ℕ) (d : Depths) → Holds marks (starts (S .code))
+        → firstBad (judge S (span entry end declared) at) (jumps d (t ∷ drop (k + 1) targets))
+        ≡ firstBad (judge S (span entry end declared) at) (jumps d targets)
+    in-turn S declared d h =
+        ap (λ (ts : List ℕ). firstBad (judge S (span entry end declared) at) (jumps d ts)) here ∙ inv .left S declared d h
+
+    module _ {r : Outcome} (found : Told marks entry end at t r) where
+      pub one-more : r ≡ Passed → Good marks targets entry end at (k + 1)
+      one-more p = record {
+        within = omega arith;
+        left = λ S declared d h.
+            sym (goes-on (judge S (span entry end declared) at) d (drop (k + 1) targets) (found S declared h) p) ∙ in-turn S declared d h;
+      }
+
+      pub refused : {answer : Answer} → r ≡ Refused answer → (S : Script) (declared : ℕ) (d : Depths) → Holds marks (starts (S .code))
+          → told r ≡ firstBad (judge S (span entry end declared) at) (jumps d targets)
+      refused p S declared d h =
+          stops (judge S (span entry end declared) at) d (drop (k + 1) targets) (found S declared h) p ∙ in-turn S declared d h

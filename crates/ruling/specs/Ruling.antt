@@ -1,0 +1,83 @@
+-- What the code says of one instruction of a chunk, as the rule of its machine says it: the tests of its needs, the edges, and
+-- the script that the parameters of a call make. Document 01, "Order of the tests": "rights (kind 4, p only what
+-- lacks); 12; 15 for ITER_DROP, 16 for POP_HANDLER; then edges, each target tested for 9, then 10, and the fall-through pushed
+-- last. ITER_NEXT* tests 15 before its target [...]. A plain instruction whose successor is not before the end gives 13."
+use mathlib.Core.Bool.{_&&_, cond}
+use mathlib.Core.List.{List, []}
+use mathlib.Core.Option.{Option, none, some}
+use Prim.Native.Nat.{ℕ}
+use lib.Dec.{ltb, leb}
+use Rattle.rules.specs.declared.Answer.{Answer}
+use Rattle.rules.specs.declared.Answer.the-variants.{MissingCaps, Underflow, FallsOffTheEnd, IteratorUnderflow, HandlerUnderflow}
+use Rattle.rules.specs.declared.Depths.{Depths}
+use Rattle.rules.specs.Edges.{falls, plain, afterOf, jumpedOf, after, jumped, next}
+use Rattle.rules.specs.Machine as machine
+use Rattle.rules.specs.Paths.{iteratorsNeeded, handlersNeeded}
+use Rattle.rules.specs.Rule.{rule}
+use Rattle.rules.specs.Script.{Script, Span, tagOf}
+use Rattle.ruling.specs.declared.Edges.{Edges}
+use Rattle.ruling.specs.declared.Outcome.{Outcome}
+use Rattle.ruling.specs.declared.Outcome.the-variants.{Passed, Refused}
+use Rattle.ruling.specs.declared.Ruling.{Ruling}
+use Rattle.ruling.specs.declared.Ruling.the-variants.{Denies, Gives}
+
+-- the cases of an outcome
+unfoldable pub told : Outcome → Option Answer
+told Passed = none
+told (Refused answer) = some answer
+
+-- the script of what is lent; constants, tokens and op-assignments are left empty, since no chunk looks at them
+abbrev pub script : (rights : ℕ) (names chains steps switches cases ranges code : List ℕ) → Script
+script rights names chains steps switches cases ranges code = record {
+  code = code;
+  pools = record {
+    constants = [];
+    names = names;
+    tokens = 0;
+    opAssignments = 0;
+    chains = chains;
+    steps = steps;
+    switches = switches;
+    cases = cases;
+    ranges = ranges;
+  };
+  rights = rights;
+}
+
+-- ---- the tests of an instruction, in numbers
+
+-- kind 4, where so much lacks; then 12, 15 and 16, of an instruction of a tag that needs so many operands
+unfoldable pub needsTest : (lacks tag needs at : ℕ) → Depths → Option Answer
+needsTest lacks tag needs at d =
+    cond (ltb 0 lacks) (some (MissingCaps at lacks))
+    (cond (ltb (d .operands) needs) (some (Underflow at needs (d .operands)))
+    (cond (ltb (d .iterators) (iteratorsNeeded tag)) (some (IteratorUnderflow at))
+    (cond (ltb (d .handlers) (handlersNeeded tag)) (some (HandlerUnderflow at)) none)))
+
+-- the edges of an instruction of a tag that pops and pushes so many, with the place after it
+abbrev pub edgesFrom : (tag pops pushes next : ℕ) → Depths → Edges
+edgesFrom tag pops pushes next d = record {
+  after = afterOf tag pops pushes d;
+  jumped = jumpedOf tag d (afterOf tag pops pushes d);
+  next = next;
+  falls = falls tag;
+}
+
+-- 13 where it is plain and the place after it is not before the end; else the edges
+unfoldable pub leaving : (tag pops pushes next end : ℕ) → Depths → Ruling
+leaving tag pops pushes next end d = cond (plain tag && leb end next) (Denies FallsOffTheEnd) (Gives (edgesFrom tag pops pushes next d))
+
+-- ---- the rule's answer
+
+-- a denial as it is, and what the rule gives as edges
+unfoldable pub answers : machine.Ruling Answer → Edges → Ruling
+answers (machine.denies answer) edges = Denies answer
+answers (machine.gives post fall jumps) edges = Gives edges
+
+-- the edges of the instruction at a place
+abbrev pub edgesOf : Script → ℕ → Depths → Edges
+edgesOf S p d = record { after = after S p d; jumped = jumped S p d; next = next S p; falls = falls (tagOf S p) }
+
+-- what the rule says of it in a chunk, as the code's answer
+unfoldable pub ruled : Script → Span → ℕ → Depths → Ruling
+ruled S span p d = answers (rule S span p d) (edgesOf S p d)

@@ -1,0 +1,191 @@
+// One instruction of a chunk at given depths: what its rule says of it, and whether its jumps are good.
+// Every answer is the one that the rule and the judge of document 01's machine give, for whatever passed the checks before.
+// Left to the caller: which places are taken in which order, and the depths seen at them.
+ghost use mathlib.Core.Bool.{_||_};
+ghost use mathlib.Core.List.{List, map};
+ghost use mathlib.Core.Path.{_≡_};
+ghost use Prim.Native.Nat.{ℕ, _+_, _-_, _^_, _≤_, _<_};
+ghost use lib.Dec.{ltb, leb};
+ghost use lib.ListN.{length};
+ghost use Rattle.code.specs.Width.{widthAt};
+ghost use Rattle.listing.specs.Listing.{starts};
+ghost use Rattle.marks.specs.Marks.{Holds};
+ghost use Rattle.rules.specs.declared.Depths.{Depths};
+ghost use Rattle.rules.specs.Edges.{targetsOf};
+ghost use Rattle.rules.specs.Rule.{judge};
+ghost use Rattle.rules.specs.Script.{Script};
+ghost use Rattle.rules.specs.There.{NameThere, ChainThere, SwitchThere, Held};
+ghost use Rattle.rules.specs.Walk.{firstBad};
+ghost use Rattle.ruling.specs.Ruling.{told, script, needsTest, leaving, ruled};
+use rules::Answer;
+use rules::Depths;
+use rules::Effect;
+
+// A test passes, or refuses with an answer.
+pub enum Outcome {
+    Passed,
+    Refused(Answer),
+}
+
+// Where control goes from an instruction: the depths just after it, those at each of its targets, the place after it, and
+// whether control falls through to that place.
+pub struct Edges {
+    pub after: Depths,
+    pub jumped: Depths,
+    pub next: u32,
+    pub falls: bool,
+}
+
+// What the rule of an instruction says: it denies with an answer, or gives the edges.
+pub enum Ruling {
+    Denies(Answer),
+    Gives(Edges),
+}
+
+// Kind 4, with only what lacks, then 12, 15 and 16: has an instruction of this tag the rights and the depths that it needs?
+fn check_needs(missing: u32, tag: u8, needs: u32, at: usize, d: Depths) -> Outcome
+    ensures { λ r. ⌜ told r ≡ needsTest missing tag needs at d ⌝ }
+{
+    let have = d.operands;
+    if 0 < missing {
+        return Outcome::Refused(Answer::MissingCaps {
+            at: at as u64,
+            missing,
+        });
+    }
+    if have < needs {
+        return Outcome::Refused(Answer::Underflow {
+            at: at as u64,
+            need: needs,
+            have,
+        });
+    }
+    if d.iterators < rules::edges::iterators_needed(tag) {
+        return Outcome::Refused(Answer::IteratorUnderflow(at as u64));
+    }
+    if d.handlers < rules::edges::handlers_needed(tag) {
+        return Outcome::Refused(Answer::HandlerUnderflow(at as u64));
+    }
+    Outcome::Passed
+}
+
+// 13 where nothing but the next place is left to go to and it is not before the end; else the edges. For an instruction that
+// has the depths it needs.
+fn leave(tag: u8, effect: Effect, next: u32, end: u32, d: Depths) -> Ruling
+    requires { ⌜ Held tag d ⌝ }
+    requires { ⌜ effect .pops ≤ d .operands ⌝ }
+    requires { ⌜ d .operands - effect .pops + effect .pushes < 2 ^ 32 ⌝ }
+    ensures { λ r. ⌜ r ≡ leaving tag (effect .pops) (effect .pushes) next end d ⌝ }
+{
+    if rules::edges::plain(tag) && end <= next {
+        return Ruling::Denies(Answer::FallsOffTheEnd);
+    }
+    let after = rules::edges::after(tag, effect, d);
+    let jumped = rules::edges::jumped(tag, d, after);
+    let falls = rules::edges::falls(tag);
+    Ruling::Gives(Edges {
+        after,
+        jumped,
+        next,
+        falls,
+    })
+}
+
+// The rule of the instruction at an offset, in a chunk with this end.
+pub fn rule_of(
+    rights: u32,
+    names: &[u8],
+    chains: &[u32],
+    steps: &[u32],
+    code: &[u8],
+    at: usize,
+    end: u32,
+    d: Depths,
+) -> Ruling
+    requires { ⌜ 0 < widthAt (now code) at ⌝ }
+    requires { ⌜ NameThere (now code) (now names) at ⌝ }
+    requires { ⌜ ChainThere (now code) (now chains) (now steps) at ⌝ }
+    requires { ⌜ length (now code) ≤ 65536 ⌝ }
+    requires { ⌜ d .operands + 1 < 2 ^ 32 ⌝ }
+    requires { ⌜ d .iterators + 1 < 2 ^ 32 ⌝ }
+    requires { ⌜ d .handlers + 1 < 2 ^ 32 ⌝ }
+    ensures { λ r. ⌜ ((switches cases ranges : List ℕ) (entry declared : ℕ)
+        → r ≡ ruled
+        (script rights (now (names .entry)) (now (chains .entry)) (now (steps .entry)) switches cases ranges (now (code .entry)))
+        (record { entry = entry; end = end; declared = declared }) at d) ⌝ }
+{
+    let needed = rules::rights::required_caps(code, at, names, chains, steps);
+    let missing = rules::rights::lacking(needed, rights);
+    let effect = rules::effects::effect(code, at, chains);
+    let tag = code[at];
+    let able = check_needs(missing, tag, effect.needs, at, d);
+    if let Outcome::Refused(answer) = able {
+        return Ruling::Denies(answer);
+    }
+    let next = (at + code::width_of(tag)) as u32;
+    leave(tag, effect, next, end, d)
+}
+
+// Does a target lie outside of a chunk?
+fn is_outside(entry: u32, end: u32, target: u32) -> bool
+    ensures { λ r. ⌜ r ≡ (ltb target entry || leb end target) ⌝ }
+{
+    target < entry || end <= target
+}
+
+// The tests of one jump: 9, then 10.
+pub fn go(marks: &[u64], entry: u32, end: u32, at: usize, target: u32) -> Outcome
+    ensures { λ r. ⌜ ((S : Script) (declared : ℕ) → Holds (now (marks .entry)) (starts (S .code))
+        → told r ≡ judge S (record { entry = entry; end = end; declared = declared }) at target) ⌝ }
+{
+    let outside = is_outside(entry, end, target);
+    let starts = marks::starts_at(marks, target as usize);
+    if outside {
+        return Outcome::Refused(Answer::JumpOutOfRange {
+            at: at as u64,
+            target,
+        });
+    }
+    if !starts {
+        return Outcome::Refused(Answer::JumpIntoAnInstruction {
+            at: at as u64,
+            target,
+        });
+    }
+    Outcome::Passed
+}
+
+// Every jump of the instruction at an offset, in the order of its targets: the first that is refused.
+pub fn check_jumps(
+    code: &[u8],
+    at: usize,
+    switches: &[u32],
+    cases: &[u32],
+    ranges: &[u32],
+    marks: &[u64],
+    entry: u32,
+    end: u32,
+) -> Outcome
+    requires { ⌜ 0 < widthAt (now code) at ⌝ }
+    requires { ⌜ SwitchThere (now code) (now switches) (now cases) (now ranges) at ⌝ }
+    requires { ⌜ Holds (now marks) (starts (now code)) ⌝ }
+    ensures { λ r. ⌜ ((rights : ℕ) (names chains steps : List ℕ) (declared : ℕ) (d : Depths)
+        → told r ≡ firstBad
+        (judge
+        (script rights names chains steps (now (switches .entry)) (now (cases .entry)) (now (ranges .entry)) (now (code .entry)))
+        (record { entry = entry; end = end; declared = declared }) at)
+        (map (λ (t : ℕ). record { place = t; depths = d })
+        (targetsOf (now (code .entry)) (now (switches .entry)) (now (cases .entry)) (now (ranges .entry)) at))) ⌝ }
+{
+    let count = rules::edges::target_count(code, at, switches) as usize;
+    let mut k = 0;
+    while k < count {
+        let target = rules::edges::jump_target(code, at, switches, cases, ranges, k);
+        let judged = go(marks, entry, end, at, target);
+        if let Outcome::Refused(_) = judged {
+            return judged;
+        }
+        k += 1;
+    }
+    Outcome::Passed
+}
