@@ -57,10 +57,16 @@ module _ (S : Script) (room : Room) (h : Hand) (marks records work : List ℕ) (
   off-turn l = turn-is (machine S (spanOf room)) (seenStore S (spanOf room)) (itemOf h) (items work (h .waiting)) (bookOf h records) (refuses (is-off l))
 
   module _ (below-end : h .place < room .end) (d : Depths) (s : seen (machine S (spanOf room)) (seenStore S (spanOf room)) (h .place) records ≡ some d) where
-    pub dropped-turn : agree d (h .depths) ≡ true → turnOf S room h records work ≡ goes-on (items work (h .waiting)) (bookOf (droppedHand h) records)
+    dropped-turn : agree d (h .depths) ≡ true → turnOf S room h records work ≡ goes-on (items work (h .waiting)) (bookOf (droppedHand h) records)
     dropped-turn e =
         turn-is (machine S (spanOf room)) (seenStore S (spanOf room)) (itemOf h) (items work (h .waiting)) (bookOf h records)
         (again (record { below = below-end; found = rw (agree-true d (h .depths) e) at s }))
+
+    pub dropped-took : agree d (h .depths) ≡ true → {in-hand : Hand} → in-hand ≡ droppedHand h → (r : Turn) (work′ : List ℕ)
+        → Back (take (room .keys) records) in-hand work r work′ → Took S room h records work r records work′
+    dropped-took e {in-hand} same r work′ b =
+        back-comes S room records work work work′ in-hand r (dropped-turn e ∙ rw same refl) (rw same (A .going .clear))
+        (rw (front S room h marks records work A) at b)
 
     pub clash-turn : agree d (h .depths) ≡ false → turnOf S room h records work ≡ stops (DepthConflict (h .place) d (h .depths))
     clash-turn e =
