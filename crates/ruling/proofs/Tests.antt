@@ -135,7 +135,8 @@ unfoldable unless : Option Answer → Ruling → Ruling
 unless none ruling = ruling
 unless (some answer) ruling = Denies answer
 
-stops : {r : Outcome} {answer : Answer} {test : Option Answer} (rest : Ruling) → told r ≡ test → r ≡ Refused answer → Denies answer ≡ unless test rest
+stops : {r : Outcome} {answer : Answer} {test : Option Answer} (rest : Ruling) → told r ≡ test → r ≡ Refused answer
+    → Denies answer ≡ unless test rest
 unfolding told unless
 stops rest e p = rw (← e, p)
 

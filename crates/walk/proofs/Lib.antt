@@ -6,3 +6,4 @@ pub mod Parts
 pub mod Turns
 pub mod Leaving
 pub mod Took
+pub mod Chunks

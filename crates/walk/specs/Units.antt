@@ -1,23 +1,26 @@
 -- One item taken, in the code's words and in those of the walk. Document 01, "Order of the tests": "takes the work item pushed
 -- last".
 use mathlib.Core.Bool.{true, false, _&&_, cond}
-use mathlib.Core.List.{List, [], _∷_, map}
-use mathlib.Core.Option.{none}
+use mathlib.Core.List.{List, [], _∷_, _++_, map}
+use mathlib.Core.Option.{Option, none, some}
 use mathlib.Core.Path.{_≡_}
 use Prim.Native.Nat.{ℕ, _+_, _*_, _^_, _≤_, _<_, max}
 use lib.Dec.{ltb, eqb}
-use lib.ListN.{length, getD, take}
+use lib.ListN.{length, getD, set, take, drop, replicate}
 use Rattle.order.specs.Order.{Rising, below}
 use Rattle.rules.specs.declared.Answer.{Answer}
+use Rattle.rules.specs.declared.Answer.the-variants.{StackExceedsDeclared}
 use Rattle.rules.specs.declared.Depths.{Depths}
 use Rattle.rules.specs.Chunk.{BeforeWalk}
-use Rattle.rules.specs.Depths.{Item}
+use Rattle.rules.specs.Depths.{Item, zeros}
 use Rattle.rules.specs.Edges.{T}
 use Rattle.rules.specs.Rule.{machine}
 use Rattle.rules.specs.Script.{Script, Span}
 use Rattle.rules.specs.Walk.{Book, goes-on, stops, unfinished, seen, turn, walk}
 use Rattle.rules.specs.Walk as definition
 use Rattle.ruling.specs.declared.Edges.{Edges}
+use Rattle.ruling.specs.declared.Outcome.{Outcome}
+use Rattle.ruling.specs.Ruling.{told}
 use Rattle.words.specs.Seen.{noteAt}
 use Rattle.words.specs.Stack.{items, putAll, Clear}
 use Rattle.walk.specs.declared.Hand.{Hand}
@@ -186,3 +189,36 @@ module _ (S : Script) (room : Room) where
 
   abbrev pub Took : Hand → (records work : List ℕ) → Turn → (records′ work′ : List ℕ) → Type 0
   Took h records work = Comes (turnOf h records work) records work
+
+-- ---- the ends of a walk
+
+-- the first item in hand
+abbrev pub firstHand : (keys : List ℕ) → (entry : ℕ) → Hand
+firstHand keys entry = record {
+  place = entry;
+  depths = zeros;
+  slot = below keys entry;
+  waiting = 0;
+  reached = 0;
+  taken = 0;
+  height = 0;
+}
+
+-- the words with so many zeros in front
+abbrev pub zeroed : ℕ → List ℕ → List ℕ
+zeroed n words = replicate n 0 ++ drop n words
+
+-- so many words of records and of work were cleared
+pub record Abandoned (used waited : ℕ) (records work records′ work′ : List ℕ) : Type 0 where
+  pub records-zeroed : records′ ≡ zeroed used records
+  pub work-zeroed : work′ ≡ zeroed waited work
+
+-- 14, after a walk that refuses nothing
+unfoldable pub heightTest : (height declared : ℕ) → Option Answer
+heightTest height declared = cond (ltb declared height) (some (StackExceedsDeclared height declared)) none
+
+-- so many words of records were cleared, and the height is stored where it passes
+pub record Closed (used height declared chunk : ℕ) (heights records : List ℕ) (r : Outcome) (heights′ records′ : List ℕ) : Type 0 where
+  pub answer : told r ≡ heightTest height declared
+  pub stored : heights′ ≡ cond (ltb declared height) heights (set heights chunk height)
+  pub records-zeroed : records′ ≡ zeroed used records

@@ -1,6 +1,7 @@
 -- `ruling::check_jumps` meets its contract. The loop's measure is how many targets are left.
+use mathlib.Core.List.{List}
 use mathlib.Core.Path.{_≡_}
-use Prim.Native.Nat.{_-_, _<_}
+use Prim.Native.Nat.{ℕ, _-_, _<_}
 use native.Mathlib.Omega.{arith}
 use borrow.Author.Needs.{needs}
 use lib.ListN.{length}
@@ -29,13 +30,16 @@ loop-holds c = none-yet _ _ _ _ _
 abbrev start : tie.After-target-count Inv-loop μ-loop → tie.Start Inv-loop μ-loop
 start c = c .before .before .before .before .before .before
 
-counted : (c : tie.After-target-count Inv-loop μ-loop) → c .target-count .result
-    ≡ length (targetsOf (start c .args .code .now) (start c .args .switches .now) (start c .args .cases .now) (start c .args .ranges .now) (start c .args .at))
+abbrev targets : tie.After-target-count Inv-loop μ-loop → List ℕ
+targets c =
+    let args = start c .args in
+    targetsOf (args .code .now) (args .switches .now) (args .cases .now) (args .ranges .now) (args .at)
+
+counted : (c : tie.After-target-count Inv-loop μ-loop) → c .target-count .result ≡ length (targets c)
 counted c = c .target-count .ensures _ _
 
 -- so in a turn there is a target of this number
-below : (c : tie.In-loop Inv-loop μ-loop) → c .before .loop .k
-    < length (targetsOf (start (c .before .before) .args .code .now) (start (c .before .before) .args .switches .now) (start (c .before .before) .args .cases .now) (start (c .before .before) .args .ranges .now) (start (c .before .before) .args .at))
+below : (c : tie.In-loop Inv-loop μ-loop) → c .before .loop .k < length (targets (c .before .before))
 below c = omega (arith, c .loop-test .taken, counted (c .before .before))
 
 jump-target-requires : tie.Need-jump-target-requires Inv-loop μ-loop

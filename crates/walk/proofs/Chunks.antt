@@ -1,0 +1,164 @@
+-- A chunk's walk, item by item over the words, is the walk of the definition: it begins, goes on, and ends as that one does.
+use mathlib.Core.Bool.{Bool, true, false, cond}
+use mathlib.Core.List.{List, [], _∷_}
+use mathlib.Core.Option.{none, some}
+use mathlib.Core.Path.{_≡_, refl, sym, ap, _∙_, subst}
+use Prim.Native.Nat.{ℕ, _+_, _-_, _*_, _≤_, _<_}
+use native.Mathlib.Omega.{arith}
+use lib.Dec.{ltb}
+use lib.ListN.{length}
+use Rattle.order.specs.Order.{below}
+use Rattle.code.specs.Width.{widthOf}
+use Rattle.listing.proofs.Before.{before-few}
+use Rattle.rules.specs.declared.Answer.{Answer}
+use Rattle.rules.specs.declared.Answer.the-variants.{StackExceedsDeclared}
+use Rattle.rules.specs.Chunk.{Judged, passes, fails, measured, walked, judgeChunk, redeclared, BeforeWalk}
+use Rattle.rules.specs.Depths.{Item}
+use Rattle.rules.specs.Edges.{T, E, chunkStarts}
+use Rattle.rules.specs.Machine.{origin}
+use Rattle.rules.specs.Rule.{machine, rule, judge}
+use Rattle.rules.specs.Script.{Script, Span}
+use Rattle.rules.specs.Walk.{Book, blank, Turn, goes-on, stops, Run, accepted, refused, unfinished, run, walk, turn, Log, log}
+use Rattle.rules.proofs.Demand.{judged-walks}
+use Rattle.rules.proofs.Ends.{accepted-bounded, refused-bounded}
+use Rattle.rules.proofs.Keeps.{keeps-laws}
+use Rattle.rules.proofs.Lists.{zero≢one}
+use Rattle.rules.proofs.Slices.{next-goes-on, next-stops, stays-accepted, stays-refused}
+use Rattle.rules.proofs.Stores.{Tells, same-accepted, same-refused}
+use Rattle.rules.proofs.Turn.{Taken, again, enters, refuses, turn-is, taken-so}
+use Rattle.words.specs.Stack.{items, Clear}
+use Rattle.words.proofs.Items.{items-none}
+use Rattle.walk.specs.declared.Hand.{Hand}
+use Rattle.walk.specs.declared.Room.{Room}
+use Rattle.walk.specs.Records.{keys, seenStore, laid}
+use Rattle.walk.specs.Units.{itemOf, bookOf, firstHand, spanOf, turnOf, Going, GoesOn, Ends, Stops}
+use Rattle.walk.proofs.Store.{Fit, faithful, laid-fit, laid-empty}
+
+-- the same chunk with another height declared passed the same checks
+redeclared-before : (S : Script) (span : Span) (declared : ℕ) {records work : ℕ} → BeforeWalk S span records work → BeforeWalk S (redeclared span declared) records work
+unfolding T E
+redeclared-before S span declared B = record {
+  decoded = B .decoded;
+  chain-there = B .chain-there;
+  switch-there = B .switch-there;
+  steps-within = B .steps-within;
+  cases-within = B .cases-within;
+  ranges-within = B .ranges-within;
+  in-order = B .in-order;
+  in-code = B .in-code;
+  aligned = B .aligned;
+  records-room = B .records-room;
+  work-room = B .work-room;
+}
+
+measured-as : (declared : ℕ) (b : Book Log) {height reached taken : ℕ} → height ≡ b .height → reached ≡ b .reached → taken ≡ b .taken
+    → measured declared (accepted b) ≡ cond (ltb declared height) (fails (StackExceedsDeclared height declared)) (passes height reached taken)
+unfolding measured
+measured-as declared b h r t = rw (h, r, t) refl
+
+module _ (S : Script) (room : Room) (words rooms : ℕ) (B : BeforeWalk S (spanOf room) words rooms) where
+  abbrev span : Span
+  span = spanOf room
+
+  -- a judged chunk is what its walk over the log comes to
+  judged-so : (declared : ℕ) {o : Run Answer Log} → walk (machine S span) log (1 + E S span) [] ≡ o
+      → judgeChunk S (redeclared span declared) words rooms ≡ measured declared o
+  unfolding walked rule judge E
+  judged-so declared e = judged-walks S (redeclared span declared) (redeclared-before S span declared B) ∙ ap (measured declared) e
+
+  pub begins : (records work : List ℕ) → length records ≡ words → records ≡ laid S span words → Clear work 0
+      → (h : Hand) → h ≡ firstHand (keys S span) (room .entry) → Going S room h records work
+  unfolding run
+  begins records work l e c h f = record {
+    ran = rw (f, items-none work, l, e) refl;
+    slot = rw f refl;
+    clear = rw f c;
+  }
+
+  module _ (h : Hand) (records work : List ℕ) (l : length records ≡ words) (G : Going S room h records work) where
+    ran : walk (machine S span) (seenStore S span) (h .taken) (laid S span words) ≡ unfinished (itemOf h ∷ items work (h .waiting)) (bookOf h records)
+    ran = rw l at (G .ran)
+
+    -- what a turn comes to decides how it was taken
+    took : {t : Turn Answer (List ℕ)} → turnOf S room h records work ≡ t
+        → Taken (machine S span) (seenStore S span) (itemOf h) (items work (h .waiting)) (bookOf h records) t
+    took e =
+        let way = taken-so (machine S span) (seenStore S span) (itemOf h) (items work (h .waiting)) (bookOf h records) in
+        subst (λ (t : Turn Answer (List ℕ)). Taken (machine S span) (seenStore S span) (itemOf h) (items work (h .waiting)) (bookOf h records) t)
+        (sym (turn-is (machine S span) (seenStore S span) (itemOf h) (items work (h .waiting)) (bookOf h records) (way .1)) ∙ e) (way .1)
+
+    one-more : {w : List Item} {b : Book (List ℕ)}
+        → Taken (machine S span) (seenStore S span) (itemOf h) (items work (h .waiting)) (bookOf h records) (goes-on w b) → b .taken ≡ h .taken + 1
+    one-more (again a) = refl
+    one-more (enters f) = refl
+
+    pub goes : (next : Hand) (records′ work′ : List ℕ) → length records′ ≡ words → GoesOn S room (turnOf S room h records work) next records′ work′
+        → Going S room next records′ work′ × (next .taken ≡ h .taken + 1)
+    unfolding run
+    goes next records′ work′ l′ g =
+        let t = took (g .turned) in
+        let count : next .taken ≡ h .taken + 1 = one-more t in
+        (record {
+          ran =
+              rw l′
+              (ap (λ (n : ℕ). walk (machine S span) (seenStore S span) n (laid S span words)) count
+              ∙ next-goes-on (machine S span) (seenStore S span) (h .taken) (origin (machine S span) ∷ []) (blank (laid S span words)) ran t);
+          slot = g .slot;
+          clear = g .clear;
+        }, count)
+
+    -- no item is left
+    module _ (last : Hand) (records′ work′ : List ℕ) (g : Ends S room (turnOf S room h records work) last records′ work′) where
+      over : walk (machine S span) (seenStore S span) (h .taken + 1) (laid S span words) ≡ accepted (bookOf last records′)
+      unfolding run
+      over = next-goes-on (machine S span) (seenStore S span) (h .taken) (origin (machine S span) ∷ []) (blank (laid S span words)) ran (took (g .turned))
+
+      on-log : (b : Book Log) × (walk (machine S span) log (h .taken + 1) [] ≡ accepted b) × Tells (machine S span) (seenStore S span) (Fit S span words) (bookOf last records′) b
+      on-log =
+          same-accepted (machine S span) (seenStore S span) (Fit S span words) (faithful S span words (B .records-room))
+          (laid-fit S span words (B .records-room)) (laid-empty S span words (B .records-room)) (h .taken + 1) over
+
+      pub last-fit : Fit S span words records′
+      last-fit = on-log .2 .fit
+
+      pub record Few : Type 0 where
+        pub reached : last .reached ≤ length (S .code)
+        pub taken : last .taken ≤ 1 + E S span
+        pub height : last .height ≤ length (S .code)
+
+      pub few : Few
+      unfolding E
+      few =
+          let b = accepted-bounded (machine S span) (keeps-laws S span B) (h .taken + 1) (on-log .1) .0 in
+          let t = on-log .2 in
+          let most = before-few widthOf (S .code) (span .end) (span .entry) in
+          record {
+            reached = omega (arith, b .few, t .reached);
+            taken = omega (arith, b .room, t .taken);
+            height = omega (arith, b .low, b .few, t .reached, t .height);
+          }
+
+      -- with as many units as there can be items it is the same
+      whole-walk : walk (machine S span) log (1 + E S span) [] ≡ accepted (on-log .0)
+      whole-walk =
+          let enough : h .taken + 1 + (E S span - h .taken) ≡ 1 + E S span = omega (arith, few .taken, one-more (took (g .turned))) in
+          rw enough at (stays-accepted (machine S span) log (h .taken + 1) (origin (machine S span) ∷ []) (blank []) (E S span - h .taken) (on-log .1))
+
+      pub ended : (declared : ℕ) → judgeChunk S (redeclared span declared) words rooms
+          ≡ cond (ltb declared (last .height)) (fails (StackExceedsDeclared (last .height) declared)) (passes (last .height) (last .reached) (last .taken))
+      ended declared = let t = on-log .2 in judged-so declared whole-walk ∙ measured-as declared (on-log .0) (t .height) (t .reached) (t .taken)
+
+    -- a refusal
+    module _ {a : Answer} (e : turnOf S room h records work ≡ stops a) where
+      stopped : walk (machine S span) log (h .taken + 1) [] ≡ refused a (h .taken + 1)
+      stopped =
+          same-refused (machine S span) (seenStore S span) (Fit S span words) (faithful S span words (B .records-room))
+          (laid-fit S span words (B .records-room)) (laid-empty S span words (B .records-room)) (h .taken + 1)
+          (next-stops (machine S span) (seenStore S span) (h .taken) (origin (machine S span) ∷ []) (blank (laid S span words)) ran (took e))
+
+      pub refuses-so : (declared : ℕ) → judgeChunk S (redeclared span declared) words rooms ≡ fails a
+      unfolding measured E
+      refuses-so declared =
+          let most = refused-bounded (machine S span) (keeps-laws S span B) (h .taken + 1) stopped in
+          let enough : h .taken + 1 + (E S span - h .taken) ≡ 1 + E S span = omega arith in
+          judged-so declared (rw enough at (stays-refused (machine S span) log (h .taken + 1) (origin (machine S span) ∷ []) (blank []) (E S span - h .taken) stopped))
