@@ -8,9 +8,10 @@ use native.Mathlib.Omega.{arith}
 use lib.ListN.{length, getD, drop}
 use lib.Seq.{drop-cons, drop-length}
 use Rattle.rules.specs.declared.Answer.{Answer}
-use Rattle.before.specs.Before.{told, first, rightsTest, constantsTest}
-use Rattle.before.specs.declared.Outcome.{Outcome}
-use Rattle.before.specs.declared.Outcome.the-variants.{Passed, Refused}
+use Rattle.rules.specs.Answer.{told}
+use Rattle.before.specs.Before.{first, rightsTest, constantsTest}
+use Rattle.rules.specs.declared.Outcome.{Outcome}
+use Rattle.rules.specs.declared.Outcome.the-variants.{Passed, Refused}
 use Rattle.before.proofs.Tests.{goes-on, stops, last}
 
 -- the constants before the one at hand are granted

@@ -22,11 +22,12 @@ use Rattle.marks.specs.Marks.{marked, markedAll}
 use Rattle.marks.proofs.Laws.{length-marked}
 use Rattle.rules.specs.declared.Answer.{Answer}
 use Rattle.rules.specs.declared.Answer.the-variants.{Undecodable, BadIndex}
-use Rattle.before.specs.Before.{Test, told, first, indicesTest, widthTest, codeTest}
+use Rattle.rules.specs.Answer.{told}
+use Rattle.before.specs.Before.{Test, first, indicesTest, widthTest, codeTest}
 use Rattle.before.specs.Memory.{Prepared, marksOf}
 use Rattle.before.specs.Pass.{unless, turnAt, marksTurned, Turned}
-use Rattle.before.specs.declared.Outcome.{Outcome}
-use Rattle.before.specs.declared.Outcome.the-variants as outcome
+use Rattle.rules.specs.declared.Outcome.{Outcome}
+use Rattle.rules.specs.declared.Outcome.the-variants as outcome
 use Rattle.before.specs.declared.Turn.{Turn}
 use Rattle.before.specs.declared.Turn.the-variants.{Next, Done, Refused}
 use Rattle.before.proofs.Tests.{last}

@@ -13,9 +13,10 @@ use Rattle.pools.specs.declared.limits.Sizes.{Sizes}
 use Rattle.rules.specs.Rights.{lacking}
 use Rattle.rules.specs.declared.Answer.{Answer}
 use Rattle.rules.specs.declared.Answer.the-variants.{TooLarge, BadTable, NoRoom, MissingCaps}
-use Rattle.before.specs.Before.{Test, told, first, limitsTest, tablesTest, roomTest, rightsTest, functionTest}
-use Rattle.before.specs.declared.Outcome.{Outcome}
-use Rattle.before.specs.declared.Outcome.the-variants.{Passed, Refused}
+use Rattle.rules.specs.Answer.{told}
+use Rattle.before.specs.Before.{Test, first, limitsTest, tablesTest, roomTest, rightsTest, functionTest}
+use Rattle.rules.specs.declared.Outcome.{Outcome}
+use Rattle.rules.specs.declared.Outcome.the-variants.{Passed, Refused}
 
 -- ---- several in their order
 

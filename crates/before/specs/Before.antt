@@ -20,17 +20,12 @@ use Rattle.rules.specs.Rights.{lacking}
 use Rattle.rules.specs.declared.Answer.{Answer}
 use Rattle.rules.specs.declared.Answer.the-variants.{TooLarge, BadTable, NoRoom, MissingCaps, Undecodable, BadIndex}
 use Rattle.before.specs.Input.{Input, sizesOf, poolSizes}
-use Rattle.before.specs.declared.Outcome.{Outcome}
-use Rattle.before.specs.declared.Outcome.the-variants.{Passed, Refused}
+use Rattle.rules.specs.declared.Outcome.{Outcome}
+use Rattle.rules.specs.declared.Outcome.the-variants.{Passed, Refused}
 
 -- a test passes, or refuses with an answer
 abbrev pub Test : Type 0
 Test = Option Answer
-
--- the cases of the code's answer
-unfoldable pub told : Outcome → Test
-told Passed = none
-told (Refused answer) = some answer
 
 -- several tests in their order: the first that refuses
 unfoldable pub first : List Test → Test

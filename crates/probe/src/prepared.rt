@@ -1,7 +1,7 @@
 // Everything before the chunks, as its verdict in numbers. An input that passes is told as kind 0 with nothing counted.
 ghost use Rattle.before.specs.Input.{input};
 ghost use Rattle.probe.specs.Before.{Told};
-use before::Outcome;
+use rules::Outcome;
 use rules::verdict;
 use rules::verdict::Verdict;
 

@@ -1,8 +1,11 @@
 -- The answer in document 01's numbers: kind, chunk, at, p, q and three counts. Document 01, "What comes back": "`at` is an
 -- offset for 5, 6, 9 to 12, 15, 16 and a walk's 4; unused are 0", and the table of kinds.
+use mathlib.Core.Option.{Option, none, some}
 use Prim.Native.Nat.{ℕ}
 use Rattle.rules.specs.declared.verdict.Verdict.{Verdict}
 use Rattle.rules.specs.declared.Answer.{Answer}
+use Rattle.rules.specs.declared.Outcome.{Outcome}
+use Rattle.rules.specs.declared.Outcome.the-variants.{Passed, Refused}
 use Rattle.rules.specs.declared.Answer.the-variants.{Accepted, TooLarge, BadTable, NoRoom, MissingCaps, Undecodable, BadIndex, ChunkOutOfRange, Misaligned, JumpOutOfRange, JumpIntoAnInstruction, DepthConflict, Underflow, FallsOffTheEnd, StackExceedsDeclared, IteratorUnderflow, HandlerUnderflow}
 
 -- the chunk of an answer that is about none: before the chunks, and on acceptance
@@ -33,3 +36,8 @@ numbered chunk FallsOffTheEnd = refusal 13 chunk 0 0 0
 numbered chunk (StackExceedsDeclared needed declared) = refusal 14 chunk 0 needed declared
 numbered chunk (IteratorUnderflow at) = refusal 15 chunk at 0 0
 numbered chunk (HandlerUnderflow at) = refusal 16 chunk at 0 0
+
+-- the cases of a test's outcome: it passes, or refuses with an answer
+unfoldable pub told : Outcome → Option Answer
+told Passed = none
+told (Refused answer) = some answer

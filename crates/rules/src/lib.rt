@@ -73,6 +73,12 @@ pub enum Answer {
     HandlerUnderflow(u64),
 }
 
+// A test passes, or refuses with an answer.
+pub enum Outcome {
+    Passed,
+    Refused(Answer),
+}
+
 // How many operands an instruction needs, pops and pushes.
 pub struct Effect {
     pub needs: u32,

@@ -16,9 +16,9 @@ use Rattle.rules.specs.Depths.{Item}
 use Rattle.rules.specs.Rule.{judge}
 use Rattle.rules.specs.Script.{Script, Span}
 use Rattle.rules.specs.Walk.{firstBad}
-use Rattle.ruling.specs.declared.Outcome.{Outcome}
-use Rattle.ruling.specs.declared.Outcome.the-variants.{Passed, Refused}
-use Rattle.ruling.specs.Ruling.{told}
+use Rattle.rules.specs.declared.Outcome.{Outcome}
+use Rattle.rules.specs.declared.Outcome.the-variants.{Passed, Refused}
+use Rattle.rules.specs.Answer.{told}
 
 abbrev span : (entry end declared : ℕ) → Span
 span entry end declared = record { entry = entry; end = end; declared = declared }

@@ -28,11 +28,12 @@ use Rattle.rules.specs.There.{Held}
 use Rattle.rules.proofs.Amounts.{pops-within-needs, pushes-at-most-one}
 use Rattle.rules.proofs.Lists.{zero≢one}
 use Rattle.rules.proofs.Says as says
-use Rattle.ruling.specs.declared.Outcome.{Outcome}
-use Rattle.ruling.specs.declared.Outcome.the-variants.{Passed, Refused}
+use Rattle.rules.specs.declared.Outcome.{Outcome}
+use Rattle.rules.specs.declared.Outcome.the-variants.{Passed, Refused}
 use Rattle.ruling.specs.declared.Ruling.{Ruling}
 use Rattle.ruling.specs.declared.Ruling.the-variants.{Denies, Gives}
-use Rattle.ruling.specs.Ruling.{told, needsTest, edgesFrom, leaving, answers, edgesOf, ruled}
+use Rattle.rules.specs.Answer.{told}
+use Rattle.ruling.specs.Ruling.{needsTest, edgesFrom, leaving, answers, edgesOf, ruled}
 
 -- ---- what an instruction needs
 

@@ -16,33 +16,10 @@ use Rattle.rules.specs.Paths.{iteratorsNeeded, handlersNeeded}
 use Rattle.rules.specs.Rule.{rule}
 use Rattle.rules.specs.Script.{Script, Span, tagOf}
 use Rattle.ruling.specs.declared.Edges.{Edges}
-use Rattle.ruling.specs.declared.Outcome.{Outcome}
-use Rattle.ruling.specs.declared.Outcome.the-variants.{Passed, Refused}
+use Rattle.rules.specs.declared.Outcome.{Outcome}
+use Rattle.rules.specs.declared.Outcome.the-variants.{Passed, Refused}
 use Rattle.ruling.specs.declared.Ruling.{Ruling}
 use Rattle.ruling.specs.declared.Ruling.the-variants.{Denies, Gives}
-
--- the cases of an outcome
-unfoldable pub told : Outcome → Option Answer
-told Passed = none
-told (Refused answer) = some answer
-
--- the script of what is lent; constants, tokens and op-assignments are left empty, since no chunk looks at them
-abbrev pub script : (rights : ℕ) (names chains steps switches cases ranges code : List ℕ) → Script
-script rights names chains steps switches cases ranges code = record {
-  code = code;
-  pools = record {
-    constants = [];
-    names = names;
-    tokens = 0;
-    opAssignments = 0;
-    chains = chains;
-    steps = steps;
-    switches = switches;
-    cases = cases;
-    ranges = ranges;
-  };
-  rights = rights;
-}
 
 -- ---- the tests of an instruction, in numbers
 

@@ -16,16 +16,13 @@ ghost use Rattle.rules.specs.Rule.{judge};
 ghost use Rattle.rules.specs.Script.{Script};
 ghost use Rattle.rules.specs.There.{NameThere, ChainThere, SwitchThere, Held};
 ghost use Rattle.rules.specs.Walk.{firstBad};
-ghost use Rattle.ruling.specs.Ruling.{told, script, needsTest, leaving, ruled};
+ghost use Rattle.rules.specs.Answer.{told};
+ghost use Rattle.rules.specs.Script.{script};
+ghost use Rattle.ruling.specs.Ruling.{needsTest, leaving, ruled};
 use rules::Answer;
 use rules::Depths;
 use rules::Effect;
-
-// A test passes, or refuses with an answer.
-pub enum Outcome {
-    Passed,
-    Refused(Answer),
-}
+use rules::Outcome;
 
 // Where control goes from an instruction: the depths just after it, those at each of its targets, the place after it, and
 // whether control falls through to that place.

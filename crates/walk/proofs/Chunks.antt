@@ -29,8 +29,9 @@ use Rattle.rules.proofs.Turn.{Taken, again, enters, refuses, turn-is, taken-so}
 use Rattle.words.specs.Stack.{items, Clear}
 use Rattle.words.proofs.Items.{items-none}
 use Rattle.walk.specs.declared.Hand.{Hand}
-use Rattle.walk.specs.declared.Room.{Room}
-use Rattle.walk.specs.Records.{keys, seenStore, laid}
+use Rattle.opening.specs.declared.Room.{Room}
+use Rattle.opening.specs.Records.{keys, laid}
+use Rattle.walk.specs.Records.{seenStore}
 use Rattle.walk.specs.Units.{itemOf, bookOf, firstHand, spanOf, turnOf, Going, GoesOn, Ends, Stops}
 use Rattle.walk.proofs.Store.{Fit, faithful, laid-fit, laid-empty}
 

@@ -12,7 +12,7 @@ use Rattle.ruling.specs.declared.Edges.{Edges}
 use Rattle.words.specs.Stack.{putAll, Clear}
 use Rattle.words.proofs.Items.{clear-putAll, length-putAll}
 use Rattle.walk.specs.declared.Hand.{Hand}
-use Rattle.walk.specs.declared.Room.{Room}
+use Rattle.opening.specs.declared.Room.{Room}
 use Rattle.walk.specs.declared.Turn.{Turn}
 use Rattle.walk.specs.declared.Turn.the-variants.{Next}
 use Rattle.walk.specs.Units.{jumpsTo, Pushed, fallen, enteredHand, noted, Leaves, Left, Back}

@@ -1,5 +1,4 @@
 -- The laws that proofs cite.
-pub mod Targets
 pub mod Store
 pub mod Moment
 pub mod Parts

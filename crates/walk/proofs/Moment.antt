@@ -27,8 +27,9 @@ use Rattle.rules.proofs.Turn.{New}
 use Rattle.words.specs.Stack.{items}
 use Rattle.words.proofs.Items.{length-items}
 use Rattle.walk.specs.declared.Hand.{Hand}
-use Rattle.walk.specs.declared.Room.{Room}
-use Rattle.walk.specs.Records.{seenStore, laid}
+use Rattle.opening.specs.declared.Room.{Room}
+use Rattle.opening.specs.Records.{laid}
+use Rattle.walk.specs.Records.{seenStore}
 use Rattle.walk.specs.Units.{itemOf, bookOf, spanOf, Going}
 use Rattle.walk.proofs.Store.{Fit, faithful, laid-fit, laid-empty}
 

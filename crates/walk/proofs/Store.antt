@@ -19,8 +19,9 @@ use Rattle.rules.specs.Script.{Script, Span}
 use Rattle.rules.proofs.Stores.{Noting, Faithful}
 use Rattle.words.specs.Seen.{seenAt, noteAt}
 use Rattle.words.proofs.Notes.{length-note, kept-behind, seen-before, seen-behind, seen-noted, none-seen}
-use Rattle.walk.specs.Records.{named, keys, slotOf, seenStore, laid}
-use Rattle.walk.proofs.Targets.{few-keys, named-key, key-there}
+use Rattle.opening.specs.Records.{named, keys, laid}
+use Rattle.walk.specs.Records.{slotOf, seenStore}
+use Rattle.opening.proofs.Targets.{few-keys, named-key, key-there}
 
 take-sets : (vs l : List ℕ) (n i : ℕ) → n ≤ i → take n (sets l i vs) ≡ take n l
 take-sets [] l n i h = refl

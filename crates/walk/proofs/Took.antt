@@ -24,10 +24,11 @@ use Rattle.ruling.specs.Ruling.{edgesOf}
 use Rattle.words.specs.Stack.{items, putAll, Clear}
 use Rattle.words.proofs.Items.{items-none, items-putAll, clear-putAll}
 use Rattle.walk.specs.declared.Hand.{Hand}
-use Rattle.walk.specs.declared.Room.{Room}
+use Rattle.opening.specs.declared.Room.{Room}
 use Rattle.walk.specs.declared.Turn.{Turn}
 use Rattle.walk.specs.declared.Turn.the-variants.{Next, Done, Refused}
-use Rattle.walk.specs.Records.{keys, seenStore}
+use Rattle.opening.specs.Records.{keys}
+use Rattle.walk.specs.Records.{seenStore}
 use Rattle.walk.specs.Units.{itemOf, bookOf, jumpsTo, fallen, droppedHand, enteredHand, Leaves, Left, Back, spanOf, turnOf, AtItem, Unseen, Comes, Took}
 use Rattle.walk.proofs.Turns.{front, noted-so, leaves, entered-turn}
 

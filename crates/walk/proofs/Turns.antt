@@ -36,14 +36,15 @@ use Rattle.words.specs.Stack.{items, putAll, Clear}
 use Rattle.words.proofs.Items.{items-none, items-putAll, clear-putAll, length-putAll}
 use Rattle.words.proofs.Notes.{length-note}
 use Rattle.walk.specs.declared.Hand.{Hand}
-use Rattle.walk.specs.declared.Room.{Room}
+use Rattle.opening.specs.declared.Room.{Room}
 use Rattle.walk.specs.declared.Turn.{Turn}
 use Rattle.walk.specs.declared.Turn.the-variants.{Next, Done, Refused}
-use Rattle.walk.specs.Records.{named, keys, slotOf, seenStore}
+use Rattle.opening.specs.Records.{named, keys}
+use Rattle.walk.specs.Records.{slotOf, seenStore}
 use Rattle.walk.specs.Units.{itemOf, bookOf, jumpsTo, fallen, droppedHand, enteredHand, noted, Leaves, Left, Back, spanOf, turnOf, AtItem, Unseen, GoesOn, Ends, Stops, Comes, Took}
 use Rattle.walk.proofs.Moment.{fit, in-chunk, small, roomy}
 use Rattle.walk.proofs.Store.{take-note}
-use Rattle.walk.proofs.Targets.{few-keys, keys-rise, named-key, key-named, key-there, there-key}
+use Rattle.opening.proofs.Targets.{few-keys, keys-rise, named-key, key-named, key-there, there-key}
 
 -- ---- the depths noted
 

@@ -1,4 +1,3 @@
 -- The definitions that contracts and laws cite.
-pub mod Ready
 pub mod Records
 pub mod Units

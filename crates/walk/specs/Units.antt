@@ -19,16 +19,17 @@ use Rattle.rules.specs.Script.{Script, Span}
 use Rattle.rules.specs.Walk.{Book, goes-on, stops, unfinished, seen, turn, walk}
 use Rattle.rules.specs.Walk as definition
 use Rattle.ruling.specs.declared.Edges.{Edges}
-use Rattle.ruling.specs.declared.Outcome.{Outcome}
-use Rattle.ruling.specs.Ruling.{told}
+use Rattle.rules.specs.declared.Outcome.{Outcome}
+use Rattle.rules.specs.Answer.{told}
 use Rattle.words.specs.Seen.{noteAt}
 use Rattle.words.specs.Stack.{items, putAll, Clear}
 use Rattle.walk.specs.declared.Hand.{Hand}
-use Rattle.walk.specs.declared.Room.{Room}
+use Rattle.opening.specs.declared.Room.{Room}
 use Rattle.walk.specs.declared.Turn.{Turn}
 use Rattle.walk.specs.declared.Turn.the-variants.{Next, Done, Refused}
-use Rattle.walk.specs.Ready.{Ready, Marked}
-use Rattle.walk.specs.Records.{keys, seenStore, laid}
+use Rattle.opening.specs.Ready.{Ready, Marked}
+use Rattle.opening.specs.Records.{keys, laid}
+use Rattle.walk.specs.Records.{seenStore}
 
 -- the item in hand, and the book
 abbrev pub itemOf : Hand → Item

@@ -5,10 +5,10 @@ ghost use lib.ListN.{length, take};
 ghost use Rattle.order.specs.Order.{Rising};
 ghost use Rattle.walk.specs.Units.{firstHand, Abandoned, Closed};
 use crate::Hand;
-use crate::Room;
+use opening::Room;
 use rules::Answer;
 use rules::Depths;
-use ruling::Outcome;
+use rules::Outcome;
 
 // The item that the walk starts with: the entry, with zeros.
 pub fn first_item(room: Room, records: &[u32]) -> Hand

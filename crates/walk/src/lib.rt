@@ -7,15 +7,6 @@ pub mod item;
 use rules::Answer;
 use rules::Depths;
 
-// A chunk that is being walked: where it starts and ends, the index in records from which depths are kept, and how many keys
-// stand before that.
-pub struct Room {
-    pub entry: u32,
-    pub end: u32,
-    pub base: usize,
-    pub keys: usize,
-}
-
 // The item in hand, and what one item hands to the next: its place and the depths there; how many keys are below the place;
 // how many items wait in work; the instructions entered, the items taken, and the largest number of operands.
 pub struct Hand {

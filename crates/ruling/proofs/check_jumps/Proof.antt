@@ -7,7 +7,8 @@ use borrow.Author.Needs.{needs}
 use lib.ListN.{length}
 use Rattle.rules.specs.Edges.{targetsOf}
 use Rattle.rules.proofs.Targets.{switch-entry-of}
-use Rattle.ruling.specs.Ruling.{told, script}
+use Rattle.rules.specs.Answer.{told}
+use Rattle.rules.specs.Script.{script}
 use Rattle.ruling.proofs.Jumps.{Good, none-yet, one-more, refused, all-good}
 use Rattle.ruling.proofs.check_jumps.Statement.{statement}
 use Rattle.ruling.proofs.check_jumps.Tie as tie

@@ -1,7 +1,8 @@
 -- `probe::prepared::probe_before` meets its contract: the outcome's answer in numbers, and the marks as they were left.
 use mathlib.Core.Path.{_∙_, ap, sym}
 use borrow.Author.Needs.{needs}
-use Rattle.before.specs.Before.{told, verdictOf}
+use Rattle.rules.specs.Answer.{told}
+use Rattle.before.specs.Before.{verdictOf}
 use Rattle.probe.proofs.prepared.probe_before.Statement.{statement}
 use Rattle.probe.proofs.prepared.probe_before.Tie as tie
 

@@ -7,9 +7,10 @@ use Rattle.rules.specs.Edges.{targets, next}
 use Rattle.rules.specs.Script.{Script}
 use Rattle.ruling.specs.declared.Edges.{Edges}
 use Rattle.ruling.specs.declared.Ruling.the-variants.{Gives}
-use Rattle.ruling.specs.Ruling.{script, edgesOf, ruled}
+use Rattle.rules.specs.Script.{script}
+use Rattle.ruling.specs.Ruling.{edgesOf, ruled}
 use Rattle.walk.specs.declared.Hand.{Hand}
-use Rattle.ruling.specs.Ruling.{told}
+use Rattle.rules.specs.Answer.{told}
 use Rattle.ruling.proofs.Laws.{denied, given-edges, given-rule}
 use Rattle.walk.specs.Units.{Leaves, spanOf}
 use Rattle.walk.proofs.Took.{stopped, left-took}

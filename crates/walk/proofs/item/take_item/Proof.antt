@@ -10,7 +10,7 @@ use Rattle.rules.specs.declared.Depths.{Depths}
 use Rattle.rules.specs.Rule.{machine}
 use Rattle.rules.specs.Script.{Script}
 use Rattle.rules.specs.Walk.{seen}
-use Rattle.ruling.specs.Ruling.{script}
+use Rattle.rules.specs.Script.{script}
 use Rattle.words.specs.Seen.{told}
 use Rattle.walk.specs.declared.Hand.{Hand}
 use Rattle.walk.specs.Records.{seenStore}

@@ -1,0 +1,155 @@
+-- A chunk's own tests: what each of them comes to, what it tells when it passes, and the verdict when it refuses.
+use mathlib.Core.Bool.{Bool, true, false, not, _||_, cond}
+use mathlib.Core.List.{List}
+use mathlib.Core.Option.{Option, none, some}
+use mathlib.Core.Path.{_≡_, refl, sym, ap, _∙_}
+use Prim.Native.Nat.{ℕ, _+_, _*_, _≤_, _<_}
+use borrow.Author.Tests.{ltb-false, lt-ltb, le-ltb, eq-eqb, ne-eqb, eqb-true}
+use lib.Dec.{ltb, eqb}
+use lib.ListN.{length}
+use Rattle.code.specs.Layout.{among}
+use Rattle.code.proofs.Among.{among-member, member-among}
+use Rattle.listing.specs.Listing.{starts}
+use Rattle.marks.specs.Marks.{Holds, bitAt, isOne}
+use Rattle.rules.specs.declared.Answer.{Answer}
+use Rattle.rules.specs.declared.Answer.the-variants.{NoRoom, ChunkOutOfRange, Misaligned}
+use Rattle.rules.specs.Chunk.{Judged, fails, walked, judgeChunk}
+use Rattle.rules.specs.Edges.{T, E}
+use Rattle.rules.specs.Script.{Script, Span}
+use Rattle.rules.proofs.Lists.{zero≢one}
+use Rattle.rules.specs.declared.Outcome.{Outcome}
+use Rattle.rules.specs.declared.Outcome.the-variants.{Passed, Refused}
+use Rattle.opening.specs.Ready.{InCode, Marked}
+use Rattle.rules.specs.Answer.{told}
+use Rattle.opening.specs.Tests.{Test, spanTest, roomTest}
+
+-- marks that hold some places tell whether a place is among them
+told-by-marks : {marks ats : List ℕ} → Holds marks ats → (i : ℕ) → isOne (bitAt marks i) ≡ among i ats
+told-by-marks {marks} {ats} h i = by-member (among i ats) refl
+  where
+    by-bit : among i ats ≡ false → (b : Bool) → isOne (bitAt marks i) ≡ b → b ≡ false
+    by-bit q false e = refl
+    by-bit q true e =
+        let m : among i ats ≡ true = member-among i ats (h .only i (eqb-true (bitAt marks i) 1 e)) in
+        absurd (zero≢one (cc))
+
+    by-member : (b : Bool) → among i ats ≡ b → isOne (bitAt marks i) ≡ b
+    by-member true q = eq-eqb (bitAt marks i) 1 (h .set i (among-member i ats q))
+    by-member false q = by-bit q (isOne (bitAt marks i)) refl
+
+-- what a test tells, by its outcome
+pub tells-refusal : {r : Outcome} {t : Test} {answer : Answer} → told r ≡ t → r ≡ Refused answer → t ≡ some answer
+unfolding told
+tells-refusal e q = sym e ∙ ap told q
+
+pub tells-none : {r : Outcome} {t : Test} → told r ≡ t → r ≡ Passed → t ≡ none
+unfolding told
+tells-none e q = sym e ∙ ap told q
+
+-- ---- 7 and 8
+
+module _ (code : List ℕ) (entry end : ℕ) where
+  pub out-of-order : end < entry → some (ChunkOutOfRange entry end) ≡ spanTest code entry end
+  unfolding spanTest
+  out-of-order h = rw (lt-ltb end entry h) refl
+
+  module _ (o : entry ≤ end) where
+    pub past-code : length code < end → some (ChunkOutOfRange entry end) ≡ spanTest code entry end
+    unfolding spanTest
+    past-code h = rw (le-ltb end entry o, lt-ltb (length code) end h) refl
+
+    module _ (i : end ≤ length code) {marks : List ℕ} (m : Marked marks code) {b : Bool} (bit : b ≡ isOne (bitAt marks entry)) where
+      pub at-start : b ≡ true → none ≡ spanTest code entry end
+      unfolding spanTest
+      at-start t = rw (le-ltb end entry o, le-ltb (length code) end i, ← told-by-marks m entry, ← bit, t) refl
+
+      pub at-end : b ≡ false → entry ≡ length code → none ≡ spanTest code entry end
+      unfolding spanTest
+      at-end f e = rw (le-ltb end entry o, le-ltb (length code) end i, ← told-by-marks m entry, ← bit, f, eq-eqb entry (length code) e) refl
+
+      pub at-neither : b ≡ false → (entry ≡ length code → ⊥) → some (Misaligned entry) ≡ spanTest code entry end
+      unfolding spanTest
+      at-neither f n = rw (le-ltb end entry o, le-ltb (length code) end i, ← told-by-marks m entry, ← bit, f, ne-eqb entry (length code) n) refl
+
+  pub span-passed : spanTest code entry end ≡ none → InCode code entry end
+  unfolding spanTest
+  span-passed = go (ltb end entry) refl (ltb (length code) end) refl (among entry (starts code) || eqb entry (length code)) refl
+    where
+      go : (a : Bool) → ltb end entry ≡ a → (b : Bool) → ltb (length code) end ≡ b
+          → (d : Bool) → (among entry (starts code) || eqb entry (length code)) ≡ d
+          → _≡_ {A = Option Answer} (cond (a || b) (some (ChunkOutOfRange entry end)) (cond (not d) (some (Misaligned entry)) none)) none
+          → InCode code entry end
+      go true qa b qb d qd e = absurd (zero≢one (cc))
+      go false qa true qb d qd e = absurd (zero≢one (cc))
+      go false qa false qb false qd e = absurd (zero≢one (cc))
+      go false qa false qb true qd e = record { in-order = ltb-false end entry qa; in-code = ltb-false (length code) end qb; aligned = qd }
+
+-- ---- room
+
+module _ (targets edges records work : ℕ) where
+  pub no-records : records < 4 * (1 + targets) → some (NoRoom (4 * (1 + targets)) 3) ≡ roomTest targets edges records work
+  unfolding roomTest
+  no-records h = rw (lt-ltb records (4 * (1 + targets)) h) refl
+
+  pub no-work : 4 * (1 + targets) ≤ records → work < 4 * (1 + edges) → some (NoRoom (4 * (1 + edges)) 4) ≡ roomTest targets edges records work
+  unfolding roomTest
+  no-work r h = rw (le-ltb records (4 * (1 + targets)) r, lt-ltb work (4 * (1 + edges)) h) refl
+
+  pub both-fit : 4 * (1 + targets) ≤ records → 4 * (1 + edges) ≤ work → none ≡ roomTest targets edges records work
+  unfolding roomTest
+  both-fit r w = rw (le-ltb records (4 * (1 + targets)) r, le-ltb work (4 * (1 + edges)) w) refl
+
+  pub record Fits : Type 0 where
+    pub records-fit : 4 * (1 + targets) ≤ records
+    pub work-fits : 4 * (1 + edges) ≤ work
+
+  pub room-passed : roomTest targets edges records work ≡ none → Fits
+  unfolding roomTest
+  room-passed = go (ltb records (4 * (1 + targets))) refl (ltb work (4 * (1 + edges))) refl
+    where
+      go : (a : Bool) → ltb records (4 * (1 + targets)) ≡ a → (b : Bool) → ltb work (4 * (1 + edges)) ≡ b
+          → _≡_ {A = Option Answer} (cond a (some (NoRoom (4 * (1 + targets)) 3)) (cond b (some (NoRoom (4 * (1 + edges)) 4)) none)) none → Fits
+      go true qa b qb e = absurd (zero≢one (cc))
+      go false qa true qb e = absurd (zero≢one (cc))
+      go false qa false qb e = record { records-fit = ltb-false records (4 * (1 + targets)) qa; work-fits = ltb-false work (4 * (1 + edges)) qb }
+
+-- ---- the verdict
+
+-- two tests in turn, and what comes after them
+module _ (x y : Answer) (rest : Judged) where
+  refuse : {answer : Answer} (a b : Bool) → cond a (some x) (cond b (some y) none) ≡ some answer → cond a (fails x) (cond b (fails y) rest) ≡ fails answer
+  refuse true b e = cc
+  refuse false true e = cc
+  refuse false false e = absurd (zero≢one (cc))
+
+  pass : (a b : Bool) → _≡_ {A = Option Answer} (cond a (some x) (cond b (some y) none)) none → cond a (fails x) (cond b (fails y) rest) ≡ rest
+  pass true b e = absurd (zero≢one (cc))
+  pass false true e = absurd (zero≢one (cc))
+  pass false false e = refl
+
+module _ (S : Script) (span : Span) (records work : ℕ) where
+  abbrev outside : Bool
+  outside = ltb (span .end) (span .entry) || ltb (length (S .code)) (span .end)
+
+  abbrev misaligned : Bool
+  misaligned = not (among (span .entry) (starts (S .code)) || eqb (span .entry) (length (S .code)))
+
+  abbrev few-records : Bool
+  few-records = ltb records (4 * (1 + T S span))
+
+  abbrev little-work : Bool
+  little-work = ltb work (4 * (1 + E S span))
+
+  abbrev room-then-walk : Judged
+  room-then-walk = cond few-records (fails (NoRoom (4 * (1 + T S span)) 3)) (cond little-work (fails (NoRoom (4 * (1 + E S span)) 4)) (walked S span))
+
+  pub span-judged : {answer : Answer} → spanTest (S .code) (span .entry) (span .end) ≡ some answer → judgeChunk S span records work ≡ fails answer
+  unfolding spanTest judgeChunk
+  span-judged e = refuse (ChunkOutOfRange (span .entry) (span .end)) (Misaligned (span .entry)) room-then-walk outside misaligned e
+
+  pub room-judged : {answer : Answer} → spanTest (S .code) (span .entry) (span .end) ≡ none → roomTest (T S span) (E S span) records work ≡ some answer
+      → judgeChunk S span records work ≡ fails answer
+  unfolding spanTest roomTest judgeChunk
+  room-judged p e =
+      pass (ChunkOutOfRange (span .entry) (span .end)) (Misaligned (span .entry)) room-then-walk outside misaligned p
+      ∙ refuse (NoRoom (4 * (1 + T S span)) 3) (NoRoom (4 * (1 + E S span)) 4) (walked S span) few-records little-work e

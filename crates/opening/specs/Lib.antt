@@ -1,0 +1,6 @@
+-- The definitions that contracts and laws cite.
+pub mod Ready
+pub mod Records
+pub mod Listing
+pub mod Tests
+pub mod Opens

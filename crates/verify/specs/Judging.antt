@@ -1,0 +1,40 @@
+-- The chunks judged, upward. Document 01, "Order of the tests": "chunks upward. The first refusal met ends the whole call"; "What
+-- comes back": "heights hold a measured height for each chunk before the one refused (all, if accepted), the others untouched";
+-- "reached and taken, summed over the chunks".
+use mathlib.Core.List.{List, [], _∷_}
+use mathlib.Core.Path.{_≡_}
+use Prim.Native.Nat.{ℕ, _+_}
+use lib.ListN.{length, set, replicate}
+use Rattle.rules.specs.Chunk.{passes, fails, judgeChunk}
+use Rattle.rules.specs.Script.{Script, Span}
+use Rattle.verify.specs.declared.spans.Judgement.{Judgement}
+use Rattle.verify.specs.declared.spans.Judgement.the-variants.{Passed, Refused}
+
+-- flat spans: as many as the shortest of the three lists has
+unfoldable pub spansOf : (entries ends declared : List ℕ) → List Span
+spansOf [] ends declared = []
+spansOf (entry ∷ entries) [] declared = []
+spansOf (entry ∷ entries) (end ∷ ends) [] = []
+spansOf (entry ∷ entries) (end ∷ ends) (height ∷ declared) = record { entry = entry; end = end; declared = height } ∷ spansOf entries ends declared
+
+-- an answer, and what heights hold with it
+pub record Judged : Type 0 where
+  pub answer : Judgement
+  pub heights : List ℕ
+
+-- where so many words of records and of work are lent: from the chunk of a number on, with what the chunks before it come to
+module _ (S : Script) (records work : ℕ) where
+  unfoldable pub judgeAll : List Span → (number reached taken : ℕ) → (heights : List ℕ) → Judged
+  judgeAll [] number reached taken heights = record { answer = Passed reached taken; heights = heights }
+  judgeAll (span ∷ spans) number reached taken heights =
+      elim (judgeChunk S span records work) [
+        | passes height r t ↦ judgeAll spans (number + 1) (reached + r) (taken + t) (set heights number height)
+        | fails a ↦ record { answer = Refused number a; heights = heights }
+      ]
+
+  -- what a call comes to: this answer, these heights, and nothing left in records and work
+  pub record Judges (spans : List Span) (first : ℕ) (heights : List ℕ) (r : Judgement) (heights′ records′ work′ : List ℕ) : Type 0 where
+    pub answer : r ≡ judgeAll spans first 0 0 heights .answer
+    pub measured : heights′ ≡ judgeAll spans first 0 0 heights .heights
+    pub records-zero : records′ ≡ replicate records 0
+    pub work-zero : work′ ≡ replicate work 0
