@@ -3,7 +3,7 @@ use mathlib.Core.Bool.{true, false, cond}
 use mathlib.Core.List.{List, [], _∷_}
 use mathlib.Core.Path.{_≡_, refl, sym, ap, _∙_}
 use Prim.Native.Nat.{ℕ, zero, suc, _+_, _*_, _^_, _≤_, _<_, min}
-use native.Mathlib.Nat.{suc-min-suc, zero-min, min-zero, le-of-suc-le-suc, not-suc-le-zero}
+use native.Mathlib.Nat.{min-le-left, min-le-right, suc-min-suc, zero-min, min-zero, le-of-suc-le-suc, not-suc-le-zero}
 use native.Mathlib.Omega.{arith}
 use lib.ListN.{length, getD, set, drop, replicate, length-set, drop-of-length-le}
 use lib.Seq.{drop-cons}
@@ -38,6 +38,15 @@ span-there (e ∷ entries) [] declared k h = absurd (not-suc-le-zero h)
 span-there (e ∷ entries) (n ∷ ends) [] k h = absurd (not-suc-le-zero h)
 span-there (e ∷ entries) (n ∷ ends) (d ∷ declared) zero h = refl
 span-there (e ∷ entries) (n ∷ ends) (d ∷ declared) (suc k) h = span-there entries ends declared k (le-of-suc-le-suc h)
+
+-- it is within each of the three lists
+pub span-within : (entries ends declared : List ℕ) (k : ℕ) → k < length (spansOf entries ends declared)
+    → (k < length entries) × (k < length ends) × (k < length declared)
+span-within entries ends declared k h =
+    let n = span-count entries ends declared in
+    (omega (arith, min-le-left (length entries) (min (length ends) (length declared))),
+    omega (arith, min-le-right (length entries) (min (length ends) (length declared)), min-le-left (length ends) (length declared)),
+    omega (arith, min-le-right (length entries) (min (length ends) (length declared)), min-le-right (length ends) (length declared)))
 
 module _ (S : Script) (records work : ℕ) where
   -- ---- one chunk
@@ -90,12 +99,12 @@ module _ (S : Script) (records work : ℕ) where
         here = drop-cons spans at nowhere h ∙ ap (λ (s : Span). s ∷ drop (suc at) spans) (span-there entries ends declared at h)
 
         pub judging-fails : {a : Answer} → judgeChunk S (spanAt entries ends declared at) records work ≡ fails a
-            → {r′ w′ : List ℕ} → r′ ≡ replicate records 0 → w′ ≡ replicate work 0
-            → Judges S records work spans first before (Refused (first + at) a) heights r′ w′
-        judging-fails {a} e z v =
+            → {heights′ r′ w′ : List ℕ} → heights′ ≡ heights → r′ ≡ replicate records 0 → w′ ≡ replicate work 0
+            → Judges S records work spans first before (Refused (first + at) a) heights′ r′ w′
+        judging-fails {a} e same z v =
             let all : judgeAll S records work spans first 0 0 before ≡ record { answer = Refused (first + at) a; heights = heights } =
                   sym (J .rest) ∙ rw here (judge-fails (spanAt entries ends declared at) (drop (suc at) spans) (first + at) reached taken heights e) in
-            record { answer = rw all refl; measured = rw all refl; records-zero = z; work-zero = v }
+            record { answer = rw all refl; measured = same ∙ rw all refl; records-zero = z; work-zero = v }
 
         pub judging-passes : {height more-reached more-taken : ℕ}
             → judgeChunk S (spanAt entries ends declared at) records work ≡ passes height more-reached more-taken

@@ -1,30 +1,44 @@
 -- A chunk that was opened is walked, item by item, and judged; what was used is cleared.
-use mathlib.Core.Bool.{true, false, cond}
+use mathlib.Core.Bool.{Bool, true, false, cond}
 use mathlib.Core.List.{List, [], _∷_, _++_}
 use mathlib.Core.Option.{none, some}
-use mathlib.Core.Path.{_≡_, refl, sym, ap, _∙_}
+use mathlib.Core.Path.{_≡_, refl, sym, ap, _∙_, subst}
 use Prim.Native.Nat.{ℕ, _+_, _-_, _*_, _^_, _≤_, _<_}
 use native.Mathlib.Decide.{decLt}
 use native.Mathlib.Omega.{arith}
-use borrow.Author.Tests.{ltb-true, ltb-false}
+use borrow.Author.Tests.{le-ltb}
 use lib.Dec.{ltb}
 use lib.ListN.{length, getD, set, take, drop, replicate, length-replicate, length-append, length-drop, List·getD-append}
 use lib.Seq.{ext-getD, getD-append-add, getD-drop}
 use Rattle.opening.specs.declared.Room.{Room}
-use Rattle.opening.specs.Opens.{Readies}
-use Rattle.opening.specs.Ready.{Ready, Marked}
+use Rattle.opening.specs.declared.Opened.{Opened}
+use Rattle.opening.specs.declared.Opened.the-variants.{Refused, Ready as Opened-Ready}
+use Rattle.opening.specs.Opens.{Readies, Refuses, Opens}
+use Rattle.code.specs.Layout.{tagAt}
+use Rattle.code.specs.Width.{widthOf}
+use Rattle.listing.proofs.Before.{before-start, before-stop, before-few}
+use Rattle.opening.specs.Ready.{Listable, Ready, Marked}
 use Rattle.opening.specs.Records.{keys, laid}
+use Rattle.opening.proofs.Kept.{few-targets}
 use Rattle.opening.proofs.Targets.{keys-rise, few-keys}
 use Rattle.order.specs.Order.{Rising}
 use Rattle.rules.specs.declared.Answer.{Answer}
 use Rattle.rules.specs.declared.Answer.the-variants.{StackExceedsDeclared}
+use Rattle.rules.specs.declared.Outcome.{Outcome}
+use Rattle.rules.specs.declared.Outcome.the-variants.{Passed, Refused as Failed}
+use Rattle.rules.specs.Answer.{told}
+use Rattle.rules.proofs.Lists.{zero≢one}
 use Rattle.rules.specs.Chunk.{BeforeWalk, judgeChunk, passes, fails, redeclared}
-use Rattle.rules.specs.Edges.{T, E}
-use Rattle.rules.specs.Script.{Script}
+use Rattle.rules.specs.Edges.{T, E, falls, degree, chunkStarts}
+use Rattle.rules.specs.Lists.{_∈_, here, there, sumOf}
+use Rattle.rules.proofs.Inside.{inside, entry-starts}
+use Rattle.rules.specs.Script.{Script, Span}
 use Rattle.rules.specs.Walk.{stops}
 use Rattle.words.specs.Stack.{Clear}
 use Rattle.walk.specs.declared.Hand.{Hand}
-use Rattle.walk.specs.Units.{spanOf, firstHand, zeroed, Abandoned, AtItem, turnOf, GoesOn, Ends}
+use Rattle.walk.specs.declared.Turn.{Turn}
+use Rattle.walk.specs.declared.Turn.the-variants.{Next, Done, Refused as Stopped}
+use Rattle.walk.specs.Units.{spanOf, firstHand, zeroed, Abandoned, heightTest, Closed, AtItem, turnOf, GoesOn, Ends, Stops, Took}
 use Rattle.walk.proofs.Chunks.{begins, goes, last-fit, Few, few, ended, refuses-so}
 use Rattle.walk.proofs.Moment.{fit, small}
 use Rattle.walk.proofs.Store.{laid-fit, behind-zeros}
@@ -56,17 +70,75 @@ cleared-all words used l z =
 pub zero-words : (words : List ℕ) → Clear words 0 → words ≡ replicate (length words) 0
 zero-words words c = cleared-all words 0 (omega arith) (λ i h. c .clear i (omega arith))
 
+-- ---- how many edges there can be
+
+sum-most : (f : ℕ → ℕ) (xs : List ℕ) → ((x : ℕ) → x ∈ xs → f x ≤ 131074) → sumOf f xs ≤ length xs * 131074
+unfolding sumOf
+sum-most f [] h = omega arith
+sum-most f (x ∷ xs) h = let rest = sum-most f xs (λ y m. h y (there m)) in omega (arith, h x (here refl))
+
+sum-none : (f : ℕ → ℕ) → sumOf f [] ≤ 65536 * 131074
+unfolding sumOf
+sum-none f = omega arith
+
+pub few-edges : (S : Script) → Ready S → (span : Span) {words rooms : ℕ} → BeforeWalk S span words rooms → E S span ≤ 65536 * 131074
+unfolding E degree
+few-edges S R span B = go (decLt (span .entry) (span .end))
+  where
+    at-most-one : (b : Bool) → cond b 1 0 ≤ 1
+    at-most-one true = omega arith
+    at-most-one false = omega arith
+
+    L : Listable (S .code) (S .pools .switches) (S .pools .cases) (S .pools .ranges)
+    L = R .listable
+
+    go : Dec (span .entry < span .end) → sumOf (degree S) (chunkStarts S span) ≤ 65536 * 131074
+    go (yes h) =
+        let start = inside S span (entry-starts S span B h) .start in
+        let most = sum-most (degree S) (chunkStarts S span) (λ p m.
+              let s = before-start widthOf (S .code) (span .end) start m .start in
+              omega (arith, few-targets (S .code) (S .pools .switches) (S .pools .cases) (S .pools .ranges) L s, at-most-one (falls (tagAt (S .code) p)))) in
+        omega (arith, before-few widthOf (S .code) (span .end) (span .entry), L .small)
+    go (no h) =
+        let none : chunkStarts S span ≡ [] = before-stop widthOf (S .code) (span .end) (span .entry) (rw (le-ltb (span .entry) (span .end) (omega arith)) refl) in
+        rw none (sum-none (degree S))
+
 -- ---- a chunk opened
 
-module _ (S : Script) (R : Ready S) (marks : List ℕ) (M : Marked marks (S .code)) (words rooms : ℕ) where
-  -- the walk has come to an item, in so many words
-  pub record Walking (room : Room) (h : Hand) (records work : List ℕ) : Type 0 where
-    pub at : AtItem S room h marks records work
-    pub records-long : length records ≡ words
-    pub work-long : length work ≡ rooms
+-- what opening came to
+module _ (S : Script) (span : Span) (words rooms : ℕ) (opened : Opened) (records work : List ℕ) (o : Opens S span words rooms opened records work) where
+  pub opens-refused : {a : Answer} → opened ≡ Refused a → Refuses S span words rooms a records work
+  opens-refused e = subst (λ (x : Opened). Opens S span words rooms x records work) e o
 
-  module _ {entry end : ℕ} {room : Room} {records work : List ℕ} (l : length records ≡ words) (m : length work ≡ rooms)
+  pub opens-ready : {room : Room} → opened ≡ Opened-Ready room → Readies S span words rooms room records work
+  opens-ready e = subst (λ (x : Opened). Opens S span words rooms x records work) e o
+
+-- what taking an item came to
+module _ (S : Script) (room : Room) (h : Hand) (records work : List ℕ) (t : Turn) (records′ work′ : List ℕ) (k : Took S room h records work t records′ work′) where
+  pub took-next : {next : Hand} → t ≡ Next next → GoesOn S room (turnOf S room h records work) next records′ work′
+  took-next e = subst (λ (x : Turn). Took S room h records work x records′ work′) e k
+
+  pub took-done : {last : Hand} → t ≡ Done last → Ends S room (turnOf S room h records work) last records′ work′
+  took-done e = subst (λ (x : Turn). Took S room h records work x records′ work′) e k
+
+  pub took-refused : {a : Answer} → t ≡ Stopped a → Stops S room (turnOf S room h records work) a records work records′ work′
+  took-refused e = subst (λ (x : Turn). Took S room h records work x records′ work′) e k
+
+-- the walk has come to an item, in so many words of records and of work
+pub record Walking (S : Script) (marks : List ℕ) (words rooms : ℕ) (room : Room) (h : Hand) (records work : List ℕ) : Type 0 where
+  pub at : AtItem S room h marks records work
+  pub records-long : length records ≡ words
+  pub work-long : length work ≡ rooms
+
+module _ (S : Script) (R : Ready S) (marks : List ℕ) (M : Marked marks (S .code)) (words rooms : ℕ) where
+  module _ {entry end : ℕ} {room : Room} {records work : List ℕ}
       (O : Readies S (record { entry = entry; end = end; declared = 0 }) words rooms room records work) where
+    pub records-long : length records ≡ words
+    records-long = ap length (O .records-laid) ∙ laid-fit S (record { entry = entry; end = end; declared = 0 }) words (O .records-room) .as-long
+
+    pub work-long : length work ≡ rooms
+    work-long = ap length (O .work-cleared) ∙ length-replicate rooms 0
+
     same-span : spanOf room ≡ record { entry = entry; end = end; declared = 0 }
     same-span = rw (O .same-entry, O .same-end) refl
 
@@ -101,39 +173,44 @@ module _ (S : Script) (R : Ready S) (marks : List ℕ) (M : Marked marks (S .cod
     opened-rises = rw opened-front (keys-rise S (spanOf room))
 
     pub opened-keys : room .keys ≤ length records
-    opened-keys = omega (arith, keyed, few-keys S (spanOf room), before .records-room, l)
+    opened-keys = omega (arith, keyed, few-keys S (spanOf room), before .records-room, records-long)
 
-    pub first-walking : {h : Hand} → h ≡ firstHand (take (room .keys) records) (room .entry) → Walking room h records work
+    first-walking : {h : Hand} → h ≡ firstHand (take (room .keys) records) (room .entry) → Walking S marks words rooms room h records work
     first-walking {h} e = record {
       at = record {
         ready = R;
         marked = M;
-        before = rw (l, m) before;
+        before = rw (records-long, work-long) before;
         base = based;
         keyed = keyed;
         going =
-            begins S room words rooms before records work l laid-so (record { clear = λ i k. rw (O .work-cleared) (zeros-at rooms i) }) h (rw opened-front at e);
+            begins S room words rooms before records work records-long laid-so (record { clear = λ i k. rw (O .work-cleared) (zeros-at rooms i) }) h (rw opened-front at e);
       };
-      records-long = l;
-      work-long = m;
+      records-long = records-long;
+      work-long = work-long;
     }
+
+    -- the same, in the words' own lengths
+    pub first-walking-here : {h : Hand} → h ≡ firstHand (take (room .keys) records) (room .entry) → Walking S marks (length records) (length work) room h records work
+    first-walking-here e = record { at = first-walking e .at; records-long = refl; work-long = refl }
 
     pub judged-here : (declared : ℕ) → judgeChunk S (redeclared (spanOf room) declared) words rooms
         ≡ judgeChunk S (record { entry = entry; end = end; declared = declared }) words rooms
     judged-here declared = rw (O .same-entry, O .same-end) refl
 
-  -- ---- one item after the other
+-- ---- one item after the other
 
-  module _ {room : Room} {h : Hand} {records work : List ℕ} (W : Walking room h records work) where
-    lent : BeforeWalk S (spanOf room) words rooms
+module _ {S : Script} {marks : List ℕ} {words rooms : ℕ} where
+  module _ {room : Room} {h : Hand} {records work : List ℕ} (W : Walking S marks words rooms room h records work) where
+    pub lent : BeforeWalk S (spanOf room) words rooms
     lent = rw (W .records-long, W .work-long) at (W .at .before)
 
     pub walking-on : {next : Hand} {records′ work′ : List ℕ} → GoesOn S room (turnOf S room h records work) next records′ work′
-        → length records′ ≡ words → length work′ ≡ rooms → Walking room next records′ work′ × (next .taken ≡ h .taken + 1)
+        → length records′ ≡ words → length work′ ≡ rooms → Walking S marks words rooms room next records′ work′ × (next .taken ≡ h .taken + 1)
     walking-on {next} {records′} {work′} g l m =
         let on = goes S room words rooms lent h records work (W .records-long) (W .at .going) next records′ work′ l g in
         (record {
-          at = record { ready = R; marked = M; before = rw (l, m) lent; base = W .at .base; keyed = W .at .keyed; going = on .0 };
+          at = record { ready = W .at .ready; marked = W .at .marked; before = rw (l, m) lent; base = W .at .base; keyed = W .at .keyed; going = on .0 };
           records-long = l;
           work-long = m;
         }, on .1)
@@ -152,9 +229,11 @@ module _ (S : Script) (R : Ready S) (marks : List ℕ) (M : Marked marks (S .cod
         omega (arith, s .waits, s .work-room, W .work-long)
 
     -- a refusal, and what was used cleared
-    pub stopped-zero : {records′ work′ : List ℕ} → Abandoned (room .base * 4) (h .waiting * 4) records work records′ work′
+    pub stopped-zero : {records₁ work₁ records′ work′ : List ℕ} → records₁ ≡ records → work₁ ≡ work
+        → Abandoned (room .base * 4) (h .waiting * 4) records₁ work₁ records′ work′
         → (records′ ≡ replicate words 0) × (work′ ≡ replicate rooms 0)
-    stopped-zero a =
+    stopped-zero e f left =
+        let a = rw (e, f) at left in
         let behind = fit S room records work (W .at .before) h (W .at .going) .behind in
         (a .records-zeroed ∙ cleared-all records (room .base * 4) (omega (arith, W .records-long, used-room)) (λ i k. behind i (omega (arith, W .at .base)))
           ∙ ap (λ (n : ℕ). replicate n 0) (W .records-long),
@@ -180,3 +259,38 @@ module _ (S : Script) (R : Ready S) (marks : List ℕ) (M : Marked marks (S .cod
 
       pub ended-work : length work′ ≡ rooms → work′ ≡ replicate rooms 0
       ended-work m = zero-words work′ (g .clear) ∙ ap (λ (n : ℕ). replicate n 0) m
+
+-- ---- a chunk closed
+
+module _ {used height declared chunk : ℕ} {heights records : List ℕ} {r : Outcome} {heights′ records′ : List ℕ}
+    (k : Closed used height declared chunk heights records r heights′ records′) where
+  low-enough : (b : Bool) → ltb declared height ≡ b → told r ≡ cond b (some (StackExceedsDeclared height declared)) none
+  unfolding heightTest
+  low-enough b e = rw (← e) (k .answer)
+
+  -- it passes, where the height is not above the declared one
+  pub record ClosedWell : Type 0 where
+    pub low : ltb declared height ≡ false
+    pub stored : heights′ ≡ set heights chunk height
+
+  pub closed-well : r ≡ Passed → ClosedWell
+  unfolding told
+  closed-well e = go (ltb declared height) refl
+    where
+      go : (b : Bool) → ltb declared height ≡ b → ClosedWell
+      go true q = let both = sym (ap told e) ∙ low-enough true q in absurd (zero≢one (cc))
+      go false q = record { low = q; stored = k .stored ∙ rw q refl }
+
+  -- it is refused, where it is above
+  pub record ClosedAbove (a : Answer) : Type 0 where
+    pub high : ltb declared height ≡ true
+    pub which : StackExceedsDeclared height declared ≡ a
+    pub kept : heights′ ≡ heights
+
+  pub closed-above : {a : Answer} → r ≡ Failed a → ClosedAbove a
+  unfolding told
+  closed-above {a} e = go (ltb declared height) refl
+    where
+      go : (b : Bool) → ltb declared height ≡ b → ClosedAbove a
+      go true q = let both = sym (ap told e) ∙ low-enough true q in record { high = q; which = cc; kept = k .stored ∙ rw q refl }
+      go false q = let both = sym (ap told e) ∙ low-enough false q in absurd (zero≢one (cc))
