@@ -43,10 +43,11 @@ span-there (e ∷ entries) (n ∷ ends) (d ∷ declared) (suc k) h = span-there 
 pub span-within : (entries ends declared : List ℕ) (k : ℕ) → k < length (spansOf entries ends declared)
     → (k < length entries) × (k < length ends) × (k < length declared)
 span-within entries ends declared k h =
-    let n = span-count entries ends declared in
-    (omega (arith, min-le-left (length entries) (min (length ends) (length declared))),
-    omega (arith, min-le-right (length entries) (min (length ends) (length declared)), min-le-left (length ends) (length declared)),
-    omega (arith, min-le-right (length entries) (min (length ends) (length declared)), min-le-right (length ends) (length declared)))
+    let n = span-count entries ends declared in (
+      omega (arith, min-le-left (length entries) (min (length ends) (length declared))),
+      omega (arith, min-le-right (length entries) (min (length ends) (length declared)), min-le-left (length ends) (length declared)),
+      omega (arith, min-le-right (length entries) (min (length ends) (length declared)), min-le-right (length ends) (length declared)),
+    )
 
 module _ (S : Script) (records work : ℕ) where
   -- ---- one chunk
@@ -91,7 +92,7 @@ module _ (S : Script) (records work : ℕ) where
       pub judging-done : length spans ≤ at → Judges S records work spans first before (Passed reached taken) heights r w
       judging-done h =
           let all : judgeAll S records work spans first 0 0 before ≡ record { answer = Passed reached taken; heights = heights } =
-                sym (J .rest) ∙ rw (drop-of-length-le spans {i = at} h) (judge-none (first + at) reached taken heights) in
+          sym (J .rest) ∙ rw (drop-of-length-le spans {i = at} h) (judge-none (first + at) reached taken heights) in
           record { answer = rw all refl; measured = rw all refl; records-zero = J .records-zero; work-zero = J .work-zero }
 
       module _ (h : at < length spans) where
@@ -103,7 +104,7 @@ module _ (S : Script) (records work : ℕ) where
             → Judges S records work spans first before (Refused (first + at) a) heights′ r′ w′
         judging-fails {a} e same z v =
             let all : judgeAll S records work spans first 0 0 before ≡ record { answer = Refused (first + at) a; heights = heights } =
-                  sym (J .rest) ∙ rw here (judge-fails (spanAt entries ends declared at) (drop (suc at) spans) (first + at) reached taken heights e) in
+            sym (J .rest) ∙ rw here (judge-fails (spanAt entries ends declared at) (drop (suc at) spans) (first + at) reached taken heights e) in
             record { answer = rw all refl; measured = same ∙ rw all refl; records-zero = z; work-zero = v }
 
         pub judging-passes : {height more-reached more-taken : ℕ}

@@ -1,3 +1,5 @@
 -- The laws that proofs cite.
 pub mod Chain
 pub mod Walking
+pub mod Sorts
+pub mod Whole

@@ -1,6 +1,6 @@
 -- A chunk that was opened is walked, item by item, and judged; what was used is cleared.
 use mathlib.Core.Bool.{Bool, true, false, cond}
-use mathlib.Core.List.{List, [], _∷_, _++_}
+use mathlib.Core.List.{List, [], _∷_, _++_, append-nil}
 use mathlib.Core.Option.{none, some}
 use mathlib.Core.Path.{_≡_, refl, sym, ap, _∙_, subst}
 use Prim.Native.Nat.{ℕ, _+_, _-_, _*_, _^_, _≤_, _<_}
@@ -9,7 +9,7 @@ use native.Mathlib.Omega.{arith}
 use borrow.Author.Tests.{le-ltb}
 use lib.Dec.{ltb}
 use lib.ListN.{length, getD, set, take, drop, replicate, length-replicate, length-append, length-drop, List·getD-append}
-use lib.Seq.{ext-getD, getD-append-add, getD-drop}
+use lib.Seq.{drop-length, ext-getD, getD-append-add, getD-drop}
 use Rattle.opening.specs.declared.Room.{Room}
 use Rattle.opening.specs.declared.Opened.{Opened}
 use Rattle.opening.specs.declared.Opened.the-variants.{Refused, Ready as Opened-Ready}
@@ -67,6 +67,9 @@ cleared-all words used l z =
             let back : used + (i - used) ≡ i = omega arith in
             (rw same at (getD-append-add (replicate used 0) (drop used words) (i - used) 0)) ∙ getD-drop used words (i - used) 0 ∙ rw back (z i (omega arith))
 
+pub all-cleared : (words : List ℕ) {words′ : List ℕ} → words′ ≡ zeroed (length words) words → words′ ≡ replicate (length words) 0
+all-cleared words e = e ∙ ap (λ (rest : List ℕ). replicate (length words) 0 ++ rest) (drop-length words) ∙ append-nil (replicate (length words) 0)
+
 pub zero-words : (words : List ℕ) → Clear words 0 → words ≡ replicate (length words) 0
 zero-words words c = cleared-all words 0 (omega arith) (λ i h. c .clear i (omega arith))
 
@@ -96,8 +99,8 @@ few-edges S R span B = go (decLt (span .entry) (span .end))
     go (yes h) =
         let start = inside S span (entry-starts S span B h) .start in
         let most = sum-most (degree S) (chunkStarts S span) (λ p m.
-              let s = before-start widthOf (S .code) (span .end) start m .start in
-              omega (arith, few-targets (S .code) (S .pools .switches) (S .pools .cases) (S .pools .ranges) L s, at-most-one (falls (tagAt (S .code) p)))) in
+        let s = before-start widthOf (S .code) (span .end) start m .start in
+        omega (arith, few-targets (S .code) (S .pools .switches) (S .pools .cases) (S .pools .ranges) L s, at-most-one (falls (tagAt (S .code) p)))) in
         omega (arith, before-few widthOf (S .code) (span .end) (span .entry), L .small)
     go (no h) =
         let none : chunkStarts S span ≡ [] = before-stop widthOf (S .code) (span .end) (span .entry) (rw (le-ltb (span .entry) (span .end) (omega arith)) refl) in
@@ -208,12 +211,14 @@ module _ {S : Script} {marks : List ℕ} {words rooms : ℕ} where
     pub walking-on : {next : Hand} {records′ work′ : List ℕ} → GoesOn S room (turnOf S room h records work) next records′ work′
         → length records′ ≡ words → length work′ ≡ rooms → Walking S marks words rooms room next records′ work′ × (next .taken ≡ h .taken + 1)
     walking-on {next} {records′} {work′} g l m =
-        let on = goes S room words rooms lent h records work (W .records-long) (W .at .going) next records′ work′ l g in
-        (record {
-          at = record { ready = W .at .ready; marked = W .at .marked; before = rw (l, m) lent; base = W .at .base; keyed = W .at .keyed; going = on .0 };
-          records-long = l;
-          work-long = m;
-        }, on .1)
+        let on = goes S room words rooms lent h records work (W .records-long) (W .at .going) next records′ work′ l g in (
+          record {
+            at = record { ready = W .at .ready; marked = W .at .marked; before = rw (l, m) lent; base = W .at .base; keyed = W .at .keyed; going = on .0 };
+            records-long = l;
+            work-long = m;
+          },
+          on .1,
+        )
 
     pub few-taken : h .taken < rooms
     few-taken =
@@ -234,11 +239,12 @@ module _ {S : Script} {marks : List ℕ} {words rooms : ℕ} where
         → (records′ ≡ replicate words 0) × (work′ ≡ replicate rooms 0)
     stopped-zero e f left =
         let a = rw (e, f) at left in
-        let behind = fit S room records work (W .at .before) h (W .at .going) .behind in
-        (a .records-zeroed ∙ cleared-all records (room .base * 4) (omega (arith, W .records-long, used-room)) (λ i k. behind i (omega (arith, W .at .base)))
-          ∙ ap (λ (n : ℕ). replicate n 0) (W .records-long),
-        a .work-zeroed ∙ cleared-all work (h .waiting * 4) (omega (arith, W .work-long, waits-within)) (λ i k. W .at .going .clear .clear i k)
-          ∙ ap (λ (n : ℕ). replicate n 0) (W .work-long))
+        let behind = fit S room records work (W .at .before) h (W .at .going) .behind in (
+          a .records-zeroed ∙ cleared-all records (room .base * 4) (omega (arith, W .records-long, used-room)) (λ i k. behind i (omega (arith, W .at .base)))
+              ∙ ap (λ (n : ℕ). replicate n 0) (W .records-long),
+          a .work-zeroed ∙ cleared-all work (h .waiting * 4) (omega (arith, W .work-long, waits-within)) (λ i k. W .at .going .clear .clear i k)
+              ∙ ap (λ (n : ℕ). replicate n 0) (W .work-long),
+        )
 
     pub stopped-judged : {a : Answer} → turnOf S room h records work ≡ stops a → (declared : ℕ) → judgeChunk S (redeclared (spanOf room) declared) words rooms ≡ fails a
     stopped-judged e = refuses-so S room words rooms lent h records work (W .records-long) (W .at .going) e

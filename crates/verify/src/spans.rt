@@ -14,18 +14,12 @@ use walk::item;
 
 // All chunks pass, with the sums of their counts; or the first that fails, with its answer.
 pub enum Judgement {
-    Passed {
-        reached: u64,
-        taken: u64,
-    },
-    Refused {
-        chunk: u32,
-        answer: Answer,
-    },
+    Passed { reached: u64, taken: u64 },
+    Refused { chunk: u32, answer: Answer },
 }
 
 // The least of three numbers.
-fn least(a: usize, b: usize, c: usize) -> usize
+pub fn least(a: usize, b: usize, c: usize) -> usize
     ensures { λ r. ⌜ r ≡ min a (min b c) ⌝ }
 {
     if a <= b {
@@ -98,8 +92,19 @@ pub fn judge_spans(
                 let mut hand = chunk::first_item(room, records);
                 let last = 'items: loop {
                     let turn = item::take_item(
-                        rights, names, chains, steps, switches, cases, ranges, code, marks, room, hand,
-                        records, work,
+                        rights,
+                        names,
+                        chains,
+                        steps,
+                        switches,
+                        cases,
+                        ranges,
+                        code,
+                        marks,
+                        room,
+                        hand,
+                        records,
+                        work,
                     );
                     match turn {
                         Turn::Next(next) => {

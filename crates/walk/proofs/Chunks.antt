@@ -98,15 +98,17 @@ module _ (S : Script) (room : Room) (words rooms : ℕ) (B : BeforeWalk S (spanO
     unfolding run
     goes next records′ work′ l′ g =
         let t = took (g .turned) in
-        let count : next .taken ≡ h .taken + 1 = one-more t in
-        (record {
-          ran =
-              rw l′
-              (ap (λ (n : ℕ). walk (machine S span) (seenStore S span) n (laid S span words)) count
-              ∙ next-goes-on (machine S span) (seenStore S span) (h .taken) (origin (machine S span) ∷ []) (blank (laid S span words)) ran t);
-          slot = g .slot;
-          clear = g .clear;
-        }, count)
+        let count : next .taken ≡ h .taken + 1 = one-more t in (
+          record {
+            ran =
+                rw l′
+                (ap (λ (n : ℕ). walk (machine S span) (seenStore S span) n (laid S span words)) count
+                ∙ next-goes-on (machine S span) (seenStore S span) (h .taken) (origin (machine S span) ∷ []) (blank (laid S span words)) ran t);
+            slot = g .slot;
+            clear = g .clear;
+          },
+          count,
+        )
 
     -- no item is left
     module _ (last : Hand) (records′ work′ : List ℕ) (g : Ends S room (turnOf S room h records work) last records′ work′) where

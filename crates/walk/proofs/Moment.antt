@@ -85,5 +85,5 @@ module _ (S : Script) (room : Room) (records work : List ℕ) (B : BeforeWalk S 
   unfolding E
   roomy new =
       let r = store-roomy (machine S span) (seenStore S span) (Fit S span (length records)) (faithful S span (length records) (B .records-room))
-                (laid-fit S span (length records) (B .records-room)) (laid-empty S span (length records) (B .records-room)) (h .taken) (keeps-laws S span B) (G .ran) new in
+      (laid-fit S span (length records) (B .records-room)) (laid-empty S span (length records) (B .records-room)) (h .taken) (keeps-laws S span B) (G .ran) new in
       omega (arith, r .room, length-items work (h .waiting))

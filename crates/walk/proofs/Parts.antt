@@ -67,7 +67,7 @@ pub taken-back : (keys : List ℕ) (h : Hand) {work work′ : List ℕ} (place :
     → Clear work (h .waiting) → record { place = place; depths = d } ≡ itemAt work (h .waiting - 1)
     → work′ ≡ put work (h .waiting - 1) (record { place = 0; depths = zeros }) → slot ≡ below keys place
     → TakenBack keys h work
-        (record { place = place; depths = d; slot = slot; waiting = h .waiting - 1; reached = h .reached; taken = h .taken; height = h .height }) work′
+    (record { place = place; depths = d; slot = slot; waiting = h .waiting - 1; reached = h .reached; taken = h .taken; height = h .height }) work′
 taken-back keys h {work} {work′} place d slot some room clear top w found = record {
   waits = ap (λ (n : ℕ). items work n) less ∙ items-on work (h .waiting - 1) ∙ rw (w, ← top, items-kept work (h .waiting - 1) (record { place = 0; depths = zeros }) (h .waiting - 1) (omega arith)) refl;
   reached = refl;

@@ -78,8 +78,8 @@ module _ (S : Script) (room : Room) (h : Hand) (marks records work : List ℕ) (
 
   module _ (U : Unseen S room h records)
       (e : rule S (spanOf room) (h .place) (h .depths)
-        ≡ gives (after S (h .place) (h .depths) .operands) (cond (falls (tagOf S (h .place))) (some (after S (h .place) (h .depths))) none)
-          (jumpsTo (jumped S (h .place) (h .depths)) (targets S (h .place))))
+      ≡ gives (after S (h .place) (h .depths) .operands) (cond (falls (tagOf S (h .place))) (some (after S (h .place) (h .depths))) none)
+      (jumpsTo (jumped S (h .place) (h .depths)) (targets S (h .place))))
       (good : firstBad (judge S (spanOf room) (h .place)) (jumpsTo (jumped S (h .place) (h .depths)) (targets S (h .place))) ≡ none) where
     js : List Item
     js = jumpsTo (jumped S (h .place) (h .depths)) (targets S (h .place))

@@ -185,7 +185,7 @@ module _ (S : Script) (room : Room) (h : Hand) (marks records work : List ℕ) (
 
     module _ (e : rule S span (h .place) (h .depths)
         ≡ gives (after S (h .place) (h .depths) .operands) (cond (falls (tagOf S (h .place))) (some (after S (h .place) (h .depths))) none)
-          (jumpsTo (jumped S (h .place) (h .depths)) (targets S (h .place)))) where
+        (jumpsTo (jumped S (h .place) (h .depths)) (targets S (h .place)))) where
       passes : Passes (machine S span) (itemOf h)
       passes = record { post = _; fall = _; jumps = _; ruled = e }
 
@@ -197,8 +197,8 @@ module _ (S : Script) (room : Room) (h : Hand) (marks records work : List ℕ) (
       module _ (good : firstBad (judge S span (h .place)) (jumpsTo (jumped S (h .place) (h .depths)) (targets S (h .place))) ≡ none) where
         pub entered-turn : turnOf S room h records work
             ≡ goes-on (fallTo (next S (h .place)) (cond (falls (tagOf S (h .place))) (some (after S (h .place) (h .depths))) none)
-                (push (jumpsTo (jumped S (h .place) (h .depths)) (targets S (h .place))) (items work (h .waiting))))
-              (entered (seenStore S span) (itemOf h) (after S (h .place) (h .depths) .operands) (bookOf h records))
+            (push (jumpsTo (jumped S (h .place) (h .depths)) (targets S (h .place))) (items work (h .waiting))))
+            (entered (seenStore S span) (itemOf h) (after S (h .place) (h .depths) .operands) (bookOf h records))
         unfolding passes
         entered-turn =
             turn-is (machine S span) (seenStore S span) (itemOf h) (items work (h .waiting)) (bookOf h records)

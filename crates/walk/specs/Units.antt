@@ -128,10 +128,10 @@ pub record Left (room : Room) (h : Hand) (edges : Edges) (targets records work :
   pub words : records′ ≡ noted room h records
   pub goes : edges .falls ≡ true
       → (r ≡ Next (fallen (take (room .keys) records) (enteredHand h (edges .after .operands) (h .waiting + length targets)) (edges .next) (edges .after)))
-        × (work′ ≡ putAll work (h .waiting) (jumpsTo (edges .jumped) targets))
+      × (work′ ≡ putAll work (h .waiting) (jumpsTo (edges .jumped) targets))
   pub back : edges .falls ≡ false
       → Back (take (room .keys) records) (enteredHand h (edges .after .operands) (h .waiting + length targets))
-        (putAll work (h .waiting) (jumpsTo (edges .jumped) targets)) r work′
+      (putAll work (h .waiting) (jumpsTo (edges .jumped) targets)) r work′
 
 -- ---- a turn
 

@@ -260,12 +260,29 @@ fn enter(
         Ruling::Denies(answer) => Turn::Refused(answer),
         Ruling::Gives(edges) => {
             let good = ruling::check_jumps(
-                code, at, switches, cases, ranges, marks, room.entry, room.end,
+                code,
+                at,
+                switches,
+                cases,
+                ranges,
+                marks,
+                room.entry,
+                room.end,
             );
             if let Outcome::Refused(answer) = good {
                 return Turn::Refused(answer);
             }
-            leave(code, switches, cases, ranges, room, hand, edges, records, work)
+            leave(
+                code,
+                switches,
+                cases,
+                ranges,
+                room,
+                hand,
+                edges,
+                records,
+                work,
+            )
         }
     }
 }
@@ -299,7 +316,19 @@ pub fn take_item(
     let seen = seen_at(records, room, hand.slot, hand.place);
     match seen {
         Seen::Never => enter(
-            rights, names, chains, steps, switches, cases, ranges, code, marks, room, hand, records, work,
+            rights,
+            names,
+            chains,
+            steps,
+            switches,
+            cases,
+            ranges,
+            code,
+            marks,
+            room,
+            hand,
+            records,
+            work,
         ),
         Seen::With(expected) => {
             let found = hand.depths;

@@ -178,7 +178,7 @@ shared-slice-read-open-span-2 :
 shared-slice-read-open-span-2 c = span-within _ _ _ _ (here (c .before .before)) .1
 
 open-span-requires : tie.Need-open-span-requires Inv-items μ-items Inv-call μ-call
-open-span-requires c κs = 
+open-span-requires c κs =
     let p = c .before .before .before .before .before in
     (ready p .listable, (marked p, (rw (records-long p) (p .call .inv .records-zero), rw (work-long p) (p .call .inv .work-zero))))
 
@@ -201,7 +201,7 @@ enum-known-turn : tie.Need-enum-known-turn Inv-items μ-items Inv-call μ-call
 enum-known-turn c = search needs
 
 items-less : tie.Need-items-less Inv-items μ-items Inv-call μ-call
-items-less c = 
+items-less c =
     let on = walking-on (c .before .before .before .before .before .before .before .before .before .before .items .inv) (goes-on (c .before .before .before) (c .before .turn .given .1)) (records-kept (c .before .before .before) ∙ c .before .before .before .before .before .before .before .before .before .before .items .inv .records-long) (work-kept (c .before .before .before) ∙ c .before .before .before .before .before .before .before .before .before .before .items .inv .work-long) in
     omega (arith, on .1, few-taken (c .before .before .before .before .before .before .before .before .before .before .items .inv))
 
@@ -215,7 +215,7 @@ enum-known-turn-3 : tie.Need-enum-known-turn-3 Inv-items μ-items Inv-call μ-ca
 enum-known-turn-3 c = search needs
 
 abandon-requires : tie.Need-abandon-requires Inv-items μ-items Inv-call μ-call
-abandon-requires c κs = 
+abandon-requires c κs =
     let W = walking (c .before .before .before .before .before .before .before .before .before .before .before .before) in
     (omega (arith, used-room W, W .records-long, records-kept (c .before .before .before .before .before)), omega (arith, waits-within W, W .work-long, work-kept (c .before .before .before .before .before)))
 
@@ -230,7 +230,7 @@ cast-close-chunk : tie.Need-cast-close-chunk Inv-items μ-items Inv-call μ-call
 cast-close-chunk c = omega (arith, few-spans (c .before .before .before .before .before .before .before .before .before .before .before .before .before .before .before .before .before .before .before .before .before .before .before .before .before .before .before), here (c .before .before .before .before .before .before .before .before .before .before .before .before .before .before .before .before .before .before .before .before .before .before .before .before .before .before), low (c .before .before .before .before .before .before .before .before .before .before .before .before .before .before .before .before .before .before .before .before .before .before .before .before .before .before .before))
 
 close-chunk-requires : tie.Need-close-chunk-requires Inv-items μ-items Inv-call μ-call
-close-chunk-requires c κs = 
+close-chunk-requires c κs =
     let W = walking (c .before .before .before .before .before .before .before .before .before .before .before .before .before) in
     (omega (arith, used-room W, W .records-long, records-kept (c .before .before .before .before .before .before)), omega (arith, here (c .before .before .before .before .before .before .before .before .before .before .before .before .before .before .before .before .before .before .before .before .before .before .before .before .before .before .before .before), heights-room (c .before .before .before .before .before .before .before .before .before .before .before .before .before .before .before .before .before .before .before .before .before .before .before .before .before .before .before .before .before), c .before .before .before .before .before .before .before .before .before .before .before .before .before .before .before .before .before .before .before .before .before .before .before .before .before .before .before .before .before .call .inv .long))
 
@@ -241,12 +241,12 @@ enum-told : tie.Need-enum-told Inv-items μ-items Inv-call μ-call
 enum-told c = search needs
 
 add-reached : tie.Need-add-reached Inv-items μ-items Inv-call μ-call
-add-reached c = 
+add-reached c =
     let few = ended-few (walking (c .before .before .before .before .before .before .before .before .before .before .before .before .before .before .before .before .before .before .before .before .before)) (ends (c .before .before .before .before .before .before .before .before .before .before .before .before .before .before) (c .before .before .before .before .before .before .before .before .before .before .before .before .turn2 .given .1)) in
     omega (arith, few .reached, ready (c .before .before .before .before .before .before .before .before .before .before .before .before .before .before .before .before .before .before .before .before .before .before .before .before .before .before .before .before .before .before .before .before .before .before .before .before .before) .listable .small, c .before .before .before .before .before .before .before .before .before .before .before .before .before .before .before .before .before .before .before .before .before .before .before .before .before .before .before .before .before .before .before .before .before .before .before .before .before .call .inv .few-reached, here (c .before .before .before .before .before .before .before .before .before .before .before .before .before .before .before .before .before .before .before .before .before .before .before .before .before .before .before .before .before .before .before .before .before .before .before .before), few-spans (c .before .before .before .before .before .before .before .before .before .before .before .before .before .before .before .before .before .before .before .before .before .before .before .before .before .before .before .before .before .before .before .before .before .before .before .before .before))
 
 add-taken : tie.Need-add-taken Inv-items μ-items Inv-call μ-call
-add-taken c = 
+add-taken c =
     let few = ended-few (walking (c .before .before .before .before .before .before .before .before .before .before .before .before .before .before .before .before .before .before .before .before .before .before)) (ends (c .before .before .before .before .before .before .before .before .before .before .before .before .before .before .before) (c .before .before .before .before .before .before .before .before .before .before .before .before .before .turn2 .given .1)) in
     omega (arith, few .taken, few-edges _ (ready (c .before .before .before .before .before .before .before .before .before .before .before .before .before .before .before .before .before .before .before .before .before .before .before .before .before .before .before .before .before .before .before .before .before .before .before .before .before .before)) _ (lent (walking (c .before .before .before .before .before .before .before .before .before .before .before .before .before .before .before .before .before .before .before .before .before .before))), c .before .before .before .before .before .before .before .before .before .before .before .before .before .before .before .before .before .before .before .before .before .before .before .before .before .before .before .before .before .before .before .before .before .before .before .before .before .before .call .inv .few-taken, here (c .before .before .before .before .before .before .before .before .before .before .before .before .before .before .before .before .before .before .before .before .before .before .before .before .before .before .before .before .before .before .before .before .before .before .before .before .before), few-spans (c .before .before .before .before .before .before .before .before .before .before .before .before .before .before .before .before .before .before .before .before .before .before .before .before .before .before .before .before .before .before .before .before .before .before .before .before .before .before))
 
@@ -257,7 +257,7 @@ call-less : tie.Need-call-less Inv-items μ-items Inv-call μ-call
 call-less c = omega (arith, here (c .before .before .before .before .before .before .before .before .before .before .before .before .before .before .before .before .before .before .before .before .before .before .before .before .before .before .before .before .before .before .before .before .before .before .before .before .before), counted (c .before .before .before .before .before .before .before .before .before .before .before .before .before .before .before .before .before .before .before .before .before .before .before .before .before .before .before .before .before .before .before .before .before .before .before .before .before .before))
 
 call-again : tie.Need-call-again Inv-items μ-items Inv-call μ-call
-call-again c = 
+call-again c =
     let W = walking (c .before .before .before .before .before .before .before .before .before .before .before .before .before .before .before .before .before .before .before .before .before .before) in
     let g = ends (c .before .before .before .before .before .before .before .before .before .before .before .before .before .before .before) (c .before .before .before .before .before .before .before .before .before .before .before .before .before .turn2 .given .1) in
     let few = ended-few W g in
@@ -269,7 +269,7 @@ call-again c =
     (ended-work W g (work-kept (c .before .before .before .before .before .before .before .before .before .before .before .before .before .before .before) ∙ W .work-long))
 
 returns-2 : tie.Need-returns-2 Inv-items μ-items Inv-call μ-call
-returns-2 c = 
+returns-2 c =
     let refused = opens-refused _ _ _ _ _ _ _ (opens (c .before .before .before .before .before .before .before) _) (c .before .opened .given .1) in
     judging-fails _ _ _ _ _ _ _ _ (c .before .before .before .before .before .before .before .before .before .before .before .before .before .call .inv) (here (c .before .before .before .before .before .before .before .before .before .before .before .before)) (refused .judged) refl (refused .records-cleared) (refused .work-cleared)
 
@@ -283,7 +283,7 @@ same-length-6 : tie.Need-same-length-6 Inv-items μ-items Inv-call μ-call
 same-length-6 c = ap length (returns-2 c .work-zero) ∙ length-replicate _ 0
 
 returns-3 : tie.Need-returns-3 Inv-items μ-items Inv-call μ-call
-returns-3 c = 
+returns-3 c =
     let W = walking (c .before .before .before .before .before .before .before .before .before .before .before .before .before .before .before .before .before) in
     let stopped = stops (c .before .before .before .before .before .before .before .before .before .before) (c .before .before .before .before .before .before .before .before .turn3 .given .1) in
     let zero = stopped-zero W (stopped .same-records) (stopped .same-work) (c .before .before .before .before .abandon .ensures) in
@@ -299,7 +299,7 @@ same-length-9 : tie.Need-same-length-9 Inv-items μ-items Inv-call μ-call
 same-length-9 c = ap length (returns-3 c .work-zero) ∙ length-replicate _ 0
 
 returns-4 : tie.Need-returns-4 Inv-items μ-items Inv-call μ-call
-returns-4 c = 
+returns-4 c =
     let W = walking (c .before .before .before .before .before .before .before .before .before .before .before .before .before .before .before .before .before .before .before .before .before) in
     let g = ends (c .before .before .before .before .before .before .before .before .before .before .before .before .before .before) (c .before .before .before .before .before .before .before .before .before .before .before .before .turn2 .given .1) in
     let above = closed-above (c .before .before .before .before .before .before .before .close-chunk .ensures) (c .before .closed .given .1) in

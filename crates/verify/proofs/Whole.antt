@@ -1,0 +1,215 @@
+-- The whole call, way by way: refused before any store, refused before the chunks, or judged.
+use mathlib.Core.List.{List, [], _∷_, _++_}
+use mathlib.Core.Logic.{_⊎_, inl, inr}
+use mathlib.Core.Option.{none, some}
+use mathlib.Core.Path.{_≡_, refl, sym, ap, _∙_}
+use Prim.Native.Nat.{ℕ, _+_, _^_, _≤_, _<_}
+use native.Mathlib.Omega.{arith}
+use lib.ListN.{length, set, replicate, length-replicate}
+use Rattle.before.specs.Before.{Test, first, beforeStores, afterStores, beforeChunks}
+use Rattle.before.specs.Input.{Input, sizesOf}
+use Rattle.before.specs.Memory.{marksOf, marksFrom, marksAfter, ForChunks}
+use Rattle.before.proofs.Established as known
+use Rattle.before.proofs.Tests.{last}
+use Rattle.code.specs.Width.{widthOf}
+use Rattle.code.proofs.Widths.{width-there}
+use Rattle.listing.specs.Listing.{starts}
+use Rattle.listing.proofs.Starts.{listed-start, rising, start-wide}
+use Rattle.marks.specs.Marks.{total}
+use Rattle.marks.proofs.Counts.{rising-length}
+use Rattle.opening.specs.Ready.{Listable, Ready, Marked}
+use Rattle.pools.specs.Sizes.{maxCode}
+use Rattle.rules.specs.Answer.{noChunk, numbered, told}
+use Rattle.rules.specs.Chunk.{passes, fails, measured, judgeChunk, walked}
+use Rattle.rules.specs.Chunk as chunk
+use Rattle.rules.specs.declared.Answer.{Answer}
+use Rattle.rules.specs.declared.Answer.the-variants.{Accepted}
+use Rattle.rules.specs.declared.Outcome.{Outcome}
+use Rattle.rules.specs.declared.Outcome.the-variants.{Passed, Refused}
+use Rattle.rules.specs.declared.verdict.Verdict.{Verdict}
+use Rattle.code.specs.Layout.{among}
+use Rattle.rules.specs.Edges.{T, E, degree, next, targets, chunkStarts}
+use Rattle.rules.specs.Machine.{Machine}
+use Rattle.rules.specs.Rule.{rule, judge, allTargets, machine}
+use Rattle.rules.specs.Walk.{walk, log}
+use Rattle.rules.specs.Script.{Script, Span, script}
+use Rattle.rules.proofs.Lists.{zero≢one}
+use Rattle.verify.specs.Judging.{Judged, judgeAll, Judges}
+use Rattle.verify.specs.declared.spans.Judgement.{Judgement}
+use Rattle.verify.specs.declared.spans.Judgement.the-variants.{Passed as AllPass, Refused as Failed}
+use Rattle.verify.specs.Call.{Memory, Result, BothClear, verdictOn, marksOn, Concludes, stored, startBits, concluded, onward, outcome, result, Calls}
+use Rattle.verify.proofs.Chain.{judge-passes, judge-fails}
+use Rattle.verify.proofs.Sorts.{early-kind, late-kind}
+
+-- ---- constants, tokens and op-assignments are no matter to a chunk
+
+abbrev bare : Script → Script
+bare S =
+    script (S .rights) (S .pools .names) (S .pools .chains) (S .pools .steps) (S .pools .switches) (S .pools .cases) (S .pools .ranges) (S .code)
+
+same-targets : (S : Script) (ps : List ℕ) → allTargets (bare S) ps ≡ allTargets S ps
+unfolding allTargets
+same-targets S [] = refl
+same-targets S (p ∷ ps) = ap (λ (ts : List ℕ). targets S p ++ ts) (same-targets S ps)
+
+same-walked : (S : Script) (span : Span) → walked (bare S) span ≡ walked S span
+unfolding walked E degree rule judge next
+same-walked S span = ap (λ (ts : List ℕ). measured (span .declared) (walk (with-targets ts) log (1 + E S span) [])) (same-targets S (chunkStarts S span))
+  where
+    with-targets : List ℕ → Machine Answer
+    with-targets ts = record {
+      entry = span .entry;
+      end = span .end;
+      start = machine S span .start;
+      next = machine S span .next;
+      named = λ p. among p (span .entry ∷ ts);
+      rule = machine S span .rule;
+      judge = machine S span .judge;
+      off = machine S span .off;
+      clash = machine S span .clash;
+    }
+
+same-chunk : (S : Script) (span : Span) (records work : ℕ) → judgeChunk (bare S) span records work ≡ judgeChunk S span records work
+unfolding judgeChunk T E degree
+same-chunk S span records work = rw (same-walked S span) refl
+
+pub same-judged : (S : Script) (records work : ℕ) (spans : List Span) (number reached taken : ℕ) (heights : List ℕ)
+    → judgeAll (bare S) records work spans number reached taken heights ≡ judgeAll S records work spans number reached taken heights
+unfolding judgeAll
+same-judged S records work [] number reached taken heights = refl
+same-judged S records work (span ∷ spans) number reached taken heights = go (judgeChunk S span records work) refl (same-judged S records work spans)
+  where
+    go : (o : chunk.Judged) → judgeChunk S span records work ≡ o
+        → ((number reached taken : ℕ) (heights : List ℕ) → judgeAll (bare S) records work spans number reached taken heights ≡ judgeAll S records work spans number reached taken heights)
+        → judgeAll (bare S) records work (span ∷ spans) number reached taken heights ≡ judgeAll S records work (span ∷ spans) number reached taken heights
+    go (passes h r t) e more =
+        judge-passes (bare S) records work span spans number reached taken heights (same-chunk S span records work ∙ e)
+        ∙ more (number + 1) (reached + r) (taken + t) (set heights number h) ∙ sym (judge-passes S records work span spans number reached taken heights e)
+    go (fails a) e more =
+        judge-fails (bare S) records work span spans number reached taken heights (same-chunk S span records work ∙ e)
+        ∙ sym (judge-fails S records work span spans number reached taken heights e)
+
+-- zeros of a length are zeros of their own
+pub zeros-still : {words : List ℕ} (n : ℕ) → words ≡ replicate n 0 → words ≡ replicate (length words) 0
+zeros-still {words} n e = e ∙ ap (λ (k : ℕ). replicate k 0) (sym (ap length e ∙ length-replicate n 0))
+
+-- ---- the end
+
+module _ {judgement : Judgement} {marks : List ℕ} {r : Verdict} where
+  pub concludes-passed : {n reached taken : ℕ} → judgement ≡ AllPass reached taken → n ≡ total marks → r ≡ numbered noChunk (Accepted n reached taken) → Concludes judgement marks r marks
+  unfolding verdictOn marksOn
+  concludes-passed e c v = record { verdict = v ∙ rw (e, c) refl; bits = rw e refl }
+
+  pub concludes-refused : {chunk : ℕ} {a : Answer} → judgement ≡ Failed chunk a → r ≡ numbered chunk a → {marks′ : List ℕ} → marks′ ≡ replicate (length marks) 0
+      → Concludes judgement marks r marks′
+  unfolding verdictOn marksOn
+  concludes-refused e v z = record { verdict = v ∙ rw e refl; bits = z ∙ rw e refl }
+
+-- ---- what passes before the chunks is what judging them builds on
+
+module _ (I : Input) (is : known.Established I) where
+  pub ready : Ready (bare (I .script))
+  unfolding maxCode
+  ready = record {
+    listable = record {
+      decoded = is .decoded;
+      switch-there = known.switch-there I is;
+      small = is .kept .code;
+      few-cases = is .kept .cases;
+      few-ranges = is .kept .ranges;
+    };
+    name-there = known.name-there I is;
+    chain-there = known.chain-there I is;
+    steps-within = λ i h. is .good .good-chains i h .within;
+    cases-within = λ i h. is .good .good-switches i h .cases-within;
+    ranges-within = λ i h. is .good .good-switches i h .ranges-within;
+  }
+
+  -- there are no more starts than bytes
+  few-starts : length (starts (I .script .code)) ≤ length (I .script .code)
+  few-starts =
+      omega (
+        arith,
+        rising-length (starts (I .script .code)) (length (I .script .code)) (rising widthOf (I .script .code) 0)
+            (λ i m. width-there widthOf (I .script .code) i (start-wide widthOf (I .script .code) (listed-start widthOf (I .script .code) i m)) .byte),
+      )
+
+  pub starts-small : length (starts (I .script .code)) < 2 ^ 64
+  unfolding maxCode
+  starts-small = omega (arith, few-starts, is .kept .code)
+
+-- ---- the ways
+
+module _ (I : Input) (spans : List Span) (before : Memory) where
+  early : Test
+  early = beforeStores I (length (before .marks)) (length (before .heights))
+
+  -- a refusal before the chunks comes before any store or after the first
+  which : {a : Answer} → beforeChunks I (length (before .marks)) (length (before .heights)) ≡ some a
+      → (early ≡ some a) ⊎ ((early ≡ none) × (afterStores I ≡ some a))
+  unfolding beforeChunks early first
+  which {a} e = go (beforeStores I (length (before .marks)) (length (before .heights))) refl (afterStores I) refl e
+    where
+      go : (x : Test) → early ≡ x → (y : Test) → afterStores I ≡ y → first (x ∷ y ∷ []) ≡ some a → (early ≡ some a) ⊎ ((early ≡ none) × (afterStores I ≡ some a))
+      go (some b) q y r f = inl (q ∙ f)
+      go none q (some b) r f = inr (q, r ∙ f)
+      go none q none r f = absurd (zero≢one (cc))
+
+  module _ {o : Outcome} {a : Answer} {marks′ : List ℕ} (k : ForChunks I (length (before .heights)) (before .marks) o marks′) (e : o ≡ Refused a) where
+    refused-so : beforeChunks I (length (before .marks)) (length (before .heights)) ≡ some a
+    unfolding told
+    refused-so = sym (k .answer) ∙ ap told e
+
+    -- of kinds 1 to 3 nothing is stored
+    pub untouched : numbered noChunk a .kind ≤ 3 → {r : Verdict} → r ≡ numbered noChunk a
+        → Calls I spans before r (record { marks = marks′; heights = before .heights; records = before .records; work = before .work })
+    unfolding outcome marksFrom early
+    untouched low {r} v = go (which refused-so)
+      where
+        go : (early ≡ some a) ⊎ ((early ≡ none) × (afterStores I ≡ some a)) → Calls I spans before r (record { marks = marks′; heights = before .heights; records = before .records; work = before .work })
+        go (inl q) = record { verdict = v ∙ rw q refl; memory = rw (k .marks, q) refl }
+        go (inr q) = absurd (omega (arith, late-kind _ _ _ _ _ _ (q .1)))
+
+    -- of the others records and work are zeroed, and so are marks
+    pub zeroed-all : 3 < numbered noChunk a .kind → {r : Verdict} → r ≡ numbered noChunk a → {records′ work′ : List ℕ}
+        → BothClear (before .records) (before .work) records′ work′
+        → Calls I spans before r (record { marks = marks′; heights = before .heights; records = records′; work = work′ })
+    unfolding outcome onward marksFrom marksOf early
+    zeroed-all high {r} v {records′} {work′} c = go (which refused-so)
+      where
+        go : (early ≡ some a) ⊎ ((early ≡ none) × (afterStores I ≡ some a)) → Calls I spans before r (record { marks = marks′; heights = before .heights; records = records′; work = work′ })
+        go (inl q) = absurd (omega (arith, early-kind _ _ _ _ _ _ _ _ q))
+        go (inr q) = record { verdict = v ∙ rw (q .0, q .1) refl; memory = rw (k .marks, c .records-zero, c .work-zero, q .0, q .1) refl }
+
+  module _ {o : Outcome} {marks′ : List ℕ} (k : ForChunks I (length (before .heights)) (before .marks) o marks′) (e : o ≡ Passed) where
+    pub passed-so : beforeChunks I (length (before .marks)) (length (before .heights)) ≡ none
+    unfolding told
+    passed-so = sym (k .answer) ∙ ap told e
+
+    pub marked-so : Marked marks′ (I .script .code)
+    marked-so = rw (k .marks) (known.marks-hold I (length (before .heights)) (before .marks) passed-so)
+
+    pub counted-so : total marks′ ≡ length (starts (I .script .code))
+    counted-so = rw (k .marks) (known.marks-count I (length (before .heights)) (before .marks) passed-so)
+
+    both-passed : (early ≡ none) × (afterStores I ≡ none)
+    unfolding early
+    both-passed = (known.early-passed I _ _ passed-so, known.late-passed I _ _ passed-so)
+
+    bits : marks′ ≡ startBits I spans before
+    unfolding marksFrom early
+    bits = k .marks ∙ rw (both-passed .0, both-passed .1) refl
+
+    pub judged-call : {words rooms : ℕ} → words ≡ length (before .records) → rooms ≡ length (before .work)
+        → {judgement : Judgement} {heights′ records′ work′ : List ℕ}
+        → Judges (bare (I .script)) words rooms spans 0 (before .heights) judgement heights′ records′ work′
+        → {r : Verdict} {marks″ : List ℕ} → Concludes judgement marks′ r marks″
+        → Calls I spans before r (record { marks = marks″; heights = heights′; records = records′; work = work′ })
+    unfolding outcome onward concluded early
+    judged-call same same-work {judgement} given {r} {marks″} c =
+        let j = rw (same, same-work) at given in
+        let all = same-judged (I .script) (length (before .records)) (length (before .work)) spans 0 0 0 (before .heights) in
+        record {
+          verdict = c .verdict ∙ rw (bits, j .answer, all, both-passed .0, both-passed .1) refl;
+          memory = rw (c .bits, bits, j .answer, j .measured, j .records-zero, j .work-zero, all, both-passed .0, both-passed .1) refl;
+        }

@@ -1,0 +1,86 @@
+-- The whole call: the order of all tests, the verdict, and what the lent memory holds on return. Document 01, "Order of the
+-- tests", and "What comes back": "Kinds 1, 2, and 3 for marks or heights come before any store. Every later return zeroes all of
+-- records and work; all of marks holds the starts' bits after acceptance, zeros after refusal; heights hold a measured height for
+-- each chunk before the one refused (all, if accepted), the others untouched."
+use mathlib.Core.List.{List}
+use mathlib.Core.Option.{none, some}
+use mathlib.Core.Path.{_≡_}
+use Prim.Native.Nat.{ℕ}
+use lib.ListN.{length, replicate}
+use Rattle.before.specs.Before.{Test, beforeStores, afterStores}
+use Rattle.before.specs.Input.{Input}
+use Rattle.before.specs.Memory.{marksOf}
+use Rattle.marks.specs.Marks.{total}
+use Rattle.rules.specs.Answer.{noChunk, numbered}
+use Rattle.rules.specs.declared.Answer.the-variants.{Accepted}
+use Rattle.rules.specs.declared.verdict.Verdict.{Verdict}
+use Rattle.rules.specs.Script.{Span}
+use Rattle.verify.specs.declared.spans.Judgement.{Judgement}
+use Rattle.verify.specs.declared.spans.Judgement.the-variants.{Passed, Refused}
+use Rattle.verify.specs.Judging.{Judged, judgeAll}
+
+-- the lent memory
+pub record Memory : Type 0 where
+  pub marks : List ℕ
+  pub heights : List ℕ
+  pub records : List ℕ
+  pub work : List ℕ
+
+-- a verdict, and the memory with it
+pub record Result : Type 0 where
+  pub verdict : Verdict
+  pub memory : Memory
+
+-- records and work are zeroed
+pub record BothClear (records work records′ work′ : List ℕ) : Type 0 where
+  pub records-zero : records′ ≡ replicate (length records) 0
+  pub work-zero : work′ ≡ replicate (length work) 0
+
+-- the verdict on judged chunks, with the ones in the marks counted, and what marks hold with it
+unfoldable pub verdictOn : Judgement → (marks : List ℕ) → Verdict
+verdictOn (Passed reached taken) marks = numbered noChunk (Accepted (total marks) reached taken)
+verdictOn (Refused chunk a) marks = numbered chunk a
+
+unfoldable pub marksOn : Judgement → (marks : List ℕ) → List ℕ
+marksOn (Passed reached taken) marks = marks
+marksOn (Refused chunk a) marks = replicate (length marks) 0
+
+pub record Concludes (judgement : Judgement) (marks : List ℕ) (r : Verdict) (marks′ : List ℕ) : Type 0 where
+  pub verdict : r ≡ verdictOn judgement marks
+  pub bits : marks′ ≡ marksOn judgement marks
+
+module _ (I : Input) (spans : List Span) (before : Memory) where
+  -- after the first store: these marks and heights, and nothing in records and work
+  abbrev pub stored : (marks heights : List ℕ) → Memory
+  stored marks heights = record {
+    marks = marks;
+    heights = heights;
+    records = replicate (length (before .records)) 0;
+    work = replicate (length (before .work)) 0;
+  }
+
+  -- the starts' bits in all words of marks
+  abbrev pub startBits : List ℕ
+  startBits = marksOf (I .script .code) none (length (before .marks))
+
+  -- the chunks are judged
+  unfoldable pub concluded : Judged → Result
+  concluded judged = record { verdict = verdictOn (judged .answer) startBits; memory = stored (marksOn (judged .answer) startBits) (judged .heights) }
+
+  -- the tests after the first store
+  unfoldable pub onward : Test → Result
+  onward (some a) = record { verdict = numbered noChunk a; memory = stored (replicate (length (before .marks)) 0) (before .heights) }
+  onward none = concluded (judgeAll (I .script) (length (before .records)) (length (before .work)) spans 0 0 0 (before .heights))
+
+  -- all of them
+  unfoldable pub outcome : Test → Result
+  outcome (some a) = record { verdict = numbered noChunk a; memory = before }
+  outcome none = onward (afterStores I)
+
+  abbrev pub result : Result
+  result = outcome (beforeStores I (length (before .marks)) (length (before .heights)))
+
+  -- what a call comes to
+  pub record Calls (r : Verdict) (after : Memory) : Type 0 where
+    pub verdict : r ≡ result .verdict
+    pub memory : after ≡ result .memory
