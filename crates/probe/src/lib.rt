@@ -16,6 +16,7 @@ pub mod depths;
 mod entries;
 pub mod instruction;
 pub mod prepared;
+pub mod whole;
 
 // An answer in numbers: which case it is, and its value.
 #[repr(C)]
