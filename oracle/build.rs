@@ -177,6 +177,7 @@ struct Edit {
 
 fn main() {
     link();
+    println!("cargo:rustc-check-cfg=cfg(library)");
     println!("cargo:rustc-check-cfg=cfg(original)");
     println!("cargo:rustc-check-cfg=cfg(feature, values({FEATURES}))");
     println!("cargo:rerun-if-changed=build.rs");
@@ -191,11 +192,15 @@ fn main() {
     println!("cargo:rustc-cfg=feature=\"no_ast\"");
 }
 
-/// Where `rt staticlib` puts the proved libraries that the tests link.
+/// Where `rt staticlib` puts the proved libraries. The tests link them in any case; a program
+/// that can do without asks whether they are there.
 fn link() {
     let libraries = variable("CARGO_MANIFEST_DIR").join("../target/staticlib");
     println!("cargo:rustc-link-search=native={}", libraries.display());
     println!("cargo:rerun-if-changed={}", libraries.display());
+    if libraries.is_dir() {
+        println!("cargo:rustc-cfg=library");
+    }
 }
 
 fn variable(name: &str) -> PathBuf {

@@ -23,14 +23,36 @@ const POOLS: [&str; 7] = [
 ///
 /// # Panics
 ///
-/// Where document 01 gives kind 2. Such a table has no form in the original's types, so ask
-/// only what `comparable` lets through.
+/// Where `Translated::of` does.
 pub fn verify(input: &Input) -> Result<Vec<u16>, Refusal> {
-    let tables = Tables::of(input);
-    let chunks: Vec<Chunk> = input.chunks.iter().map(chunk).collect();
-    tables
-        .ask(&chunks)
-        .map_err(|error| refusal(&error, refused_chunk(&tables, &chunks)))
+    Translated::of(input).verify()
+}
+
+/// An input in the original's types, which can be asked about without translating it again.
+pub struct Translated<'a> {
+    tables: Tables<'a>,
+    chunks: Vec<Chunk>,
+}
+
+impl<'a> Translated<'a> {
+    /// # Panics
+    ///
+    /// Where document 01 gives kind 2. Such a table has no form in the original's types, so ask
+    /// only what `comparable` lets through.
+    pub fn of(input: &'a Input) -> Self {
+        Self {
+            tables: Tables::of(input),
+            chunks: input.chunks.iter().map(chunk).collect(),
+        }
+    }
+
+    /// The measured heights, or why the original refuses.
+    pub fn verify(&self) -> Result<Vec<u16>, Refusal> {
+        let Self { tables, chunks } = self;
+        tables
+            .ask(chunks)
+            .map_err(|error| refusal(&error, refused_chunk(tables, chunks)))
+    }
 }
 
 /// The original's listing: offset, tag and width of each instruction in turn, up to the

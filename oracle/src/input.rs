@@ -43,7 +43,8 @@ pub struct Lent<'a> {
 /// The chunk number of an answer that is about no chunk.
 pub const NO_CHUNK: u32 = u32::MAX;
 
-/// The answer, in the numbers of document 01.
+/// The answer, in the numbers of document 01 and laid out as at the C boundary.
+#[repr(C)]
 #[derive(Clone, Copy, Debug, PartialEq, Eq)]
 pub struct Verdict {
     pub kind: u32,

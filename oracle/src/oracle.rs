@@ -177,7 +177,8 @@ pub fn verify_with(slips: &Slips, input: &Input, lent: Lent) -> Verdict {
     }
 }
 
-fn refused(chunk: u32, refusal: Refusal) -> Verdict {
+/// The answer that refuses.
+pub(crate) fn refused(chunk: u32, refusal: Refusal) -> Verdict {
     let (kind, at, p, q) = refusal.numbers();
     Verdict {
         kind,
@@ -247,7 +248,8 @@ fn verify_code_and_chunks(
 // Limits, tables, room for marks and heights
 // ---------------------------------------------------------------------------------------------
 
-fn before_any_store(slips: &Slips, input: &Input, lent: &Lent) -> Result<(), Refusal> {
+/// The tests whose refusals leave the lent memory as it was.
+pub(crate) fn before_any_store(slips: &Slips, input: &Input, lent: &Lent) -> Result<(), Refusal> {
     check_limits(slips, input)?;
     check_ragged(input)?;
     check_entries(slips, input)?;

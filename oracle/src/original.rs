@@ -39,7 +39,7 @@ pub fn comparable(verdict: &Verdict) -> bool {
 }
 
 #[cfg(original)]
-pub use adapter::{changes, disassemble, u16_at, u32_at, verify, width};
+pub use adapter::{changes, disassemble, u16_at, u32_at, verify, width, Translated};
 
 #[cfg(original)]
 #[path = "../original/stubs.rs"]

@@ -1,6 +1,7 @@
 //! Document 01's bench cases, asked of the oracle: every field of the answer and all of the
 //! lent memory. Then cases that fix how document 01 is read where it could be read otherwise.
 
+use oracle::bench::{self, bytes};
 use oracle::input::{Chunk, Input, Lent, Verdict, NO_CHUNK};
 use oracle::oracle::{listing, u16_at, u32_at, verify, verify_with, width_at};
 use oracle::oracle::{Ending, Slips, WidthAt};
@@ -104,13 +105,18 @@ fn accepted(asked: &Asked, counts: (u64, u64, u64), heights: &[u16], starts: &[u
         taken: counts.2,
     };
     assert_eq!(asked.verdict, verdict);
-    let mut marks = vec![0u64; asked.marks.len()];
+    assert_eq!(asked.marks, marked(asked, starts), "marks");
+    heights_are(asked, heights);
+    records_and_work_are_zero(asked);
+}
+
+/// As many words as were lent, with the bits of these starts.
+fn marked(asked: &Asked, starts: &[usize]) -> Vec<u64> {
+    let mut marks = vec![0; asked.marks.len()];
     for &at in starts {
         marks[at / 64] |= 1 << (at % 64);
     }
-    assert_eq!(asked.marks, marks, "marks");
-    heights_are(asked, heights);
-    records_and_work_are_zero(asked);
+    marks
 }
 
 /// A refusal's kind, chunk, at, p and q.
@@ -160,12 +166,6 @@ fn refuses_early_in(input: &Input, sizes: Sizes, (kind, p, q): (u32, u64, u64)) 
     assert!(words().all(|&word| word == OLD_WORD), "records and work");
 }
 
-/// The bytes written in `text`.
-fn bytes(text: &str) -> Vec<u8> {
-    let byte = |two| u8::from_str_radix(two, 16).expect("two digits");
-    text.split_whitespace().map(byte).collect()
-}
-
 fn span(entry: usize, end: usize) -> Chunk {
     Chunk {
         entry: entry as u32,
@@ -192,72 +192,14 @@ fn bench(text: &str) -> Input {
 // ---------------------------------------------------------------------------------------------
 
 #[test]
-fn p1_unit_return() {
-    accepts(&bench("01 07"), (2, 2, 2), &[1], &[0, 1]);
-}
-
-#[test]
-fn p2_declared_too_little() {
-    let mut input = bench("01 07");
-    input.chunks[0].declared = 0;
-    refuses(&input, (14, 0, 0, 1, 0), &[]);
-}
-
-#[test]
-fn p3_return_needs_an_operand() {
-    refuses(&bench("07"), (12, 0, 0, 1, 0), &[]);
-}
-
-#[test]
-fn p4_falls_off() {
-    refuses(&bench("01"), (13, 0, 0, 0, 0), &[]);
-}
-
-#[test]
-fn p5_no_code() {
-    refuses(&bench(""), (13, 0, 0, 0, 0), &[]);
-}
-
-#[test]
-fn p6_jumps() {
-    accepts(&bench("38 00 00 00 00"), (1, 1, 2), &[0], &[0]);
-    refuses(&bench("38 01 00 00 00"), (10, 0, 0, 1, 0), &[]);
-    refuses(&bench("38 05 00 00 00"), (9, 0, 0, 5, 0), &[]);
-}
-
-#[test]
-fn p7_iterator_before_target() {
-    refuses(&bench("3c ff ff ff ff"), (15, 0, 0, 0, 0), &[]);
-}
-
-#[test]
-fn p8_loop() {
-    let input = bench("01 09 3c 0d 00 00 00 04 38 02 00 00 00 01 07");
-    accepts(&input, (7, 7, 8), &[1], &[0, 1, 2, 7, 8, 13, 14]);
-}
-
-#[test]
-fn p9_only_handlers_differ() {
-    refuses(&bench("3d 06 00 00 00 0e 01 07"), (11, 0, 6, 0, 0), &[]);
-}
-
-#[test]
-fn p10_handlers_agree() {
-    let input = bench("3d 05 00 00 00 0e 01 07");
-    accepts(&input, (4, 4, 5), &[1], &[0, 5, 6, 7]);
-}
-
-fn p11() -> Input {
-    Input {
-        constants: vec![0; 1_794],
-        chunks: vec![span(1, 3)],
-        ..bench("24 01 07")
+fn bench_cases_have_their_answers() {
+    for bench in bench::cases() {
+        let asked = ask(&bench.input, plenty(&bench.input));
+        assert_eq!(asked.verdict, bench.verdict, "{}", bench.name);
+        assert_eq!(asked.marks, marked(&asked, &bench.starts), "{}", bench.name);
+        heights_are(&asked, &bench.heights);
+        records_and_work_are_zero(&asked);
     }
-}
-
-#[test]
-fn p11_entry_inside_an_instruction() {
-    refuses(&p11(), (8, 0, 0, 1, 0), &[]);
 }
 
 /// The Rust knows no kind 8: it decodes `01 07` from the entry and accepts.
@@ -267,49 +209,9 @@ fn p11_as_the_rust_has_it() {
         kind_8_missing: true,
         ..Slips::default()
     };
-    let asked = ask_with(&slips, &p11(), plenty(&p11()));
+    let input = bench::misaligned();
+    let asked = ask_with(&slips, &input, plenty(&input));
     accepted(&asked, (1, 2, 2), &[1], &[0]);
-}
-
-#[test]
-fn p12_rights() {
-    let mut input = bench("01 16 00 07");
-    input.rights = 32;
-    refuses(&input, (4, 0, 1, 64, 0), &[]);
-    let mut input = bench("01 07");
-    input.rights = 256;
-    input.constants = vec![768];
-    refuses(&input, (4, NO_CHUNK, 0, 768, 0), &[]);
-}
-
-#[test]
-fn no_width() {
-    refuses(&bench("00"), (5, NO_CHUNK, 0, 0, 0), &[]);
-    refuses(&bench("24 00"), (5, NO_CHUNK, 0, 0, 0), &[]);
-}
-
-#[test]
-fn index_in_code_of_no_chunk() {
-    let mut input = bench("01 07 24 00 00");
-    input.chunks = vec![span(0, 2)];
-    refuses(&input, (6, NO_CHUNK, 2, 0, 1), &[]);
-}
-
-#[test]
-fn unreached_instruction_needs_no_right() {
-    accepts(&bench("01 07 0f"), (3, 2, 2), &[1], &[0, 1, 2]);
-}
-
-#[test]
-fn end_inside_an_instruction() {
-    let mut input = bench("38 00 00 00 00");
-    input.chunks = vec![span(0, 3)];
-    accepts(&input, (1, 1, 2), &[0], &[0]);
-}
-
-#[test]
-fn pops_come_before_pushes() {
-    accepts(&bench("01 0d 07"), (3, 3, 3), &[1], &[0, 1, 2]);
 }
 
 // ---------------------------------------------------------------------------------------------

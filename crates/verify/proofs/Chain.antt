@@ -9,9 +9,10 @@ use lib.ListN.{length, getD, set, drop, replicate, length-set, drop-of-length-le
 use lib.Seq.{drop-cons}
 use Rattle.rules.specs.declared.Answer.{Answer}
 use Rattle.rules.specs.Chunk.{passes, fails, judgeChunk}
+use Rattle.rules.specs.Chunk as chunk
 use Rattle.rules.specs.Script.{Script, Span}
 use Rattle.verify.specs.declared.spans.Judgement.the-variants.{Passed, Refused}
-use Rattle.verify.specs.Judging.{spansOf, Judged, judgeAll, Judges}
+use Rattle.verify.specs.Judging.{spansOf, judgeAll, Judges, andThen}
 
 -- ---- spans
 
@@ -67,6 +68,20 @@ module _ (S : Script) (records work : ℕ) where
   judge-none : (number reached taken : ℕ) (heights : List ℕ) → judgeAll S records work [] number reached taken heights ≡ record { answer = Passed reached taken; heights = heights }
   unfolding judgeAll
   judge-none number reached taken heights = refl
+
+  -- judging a chunk and others is judging that chunk, and then the others
+  pub judge-then : (span : Span) (spans : List Span) (number reached taken : ℕ) (heights : List ℕ)
+      → judgeAll S records work (span ∷ spans) number reached taken heights
+      ≡ andThen (judgeAll S records work (span ∷ []) number reached taken heights) (λ r t h. judgeAll S records work spans (number + 1) r t h)
+  unfolding andThen
+  judge-then span spans number reached taken heights = go (judgeChunk S span records work) refl
+    where
+      go : (o : chunk.Judged) → judgeChunk S span records work ≡ o
+          → judgeAll S records work (span ∷ spans) number reached taken heights
+          ≡ andThen (judgeAll S records work (span ∷ []) number reached taken heights) (λ r t h. judgeAll S records work spans (number + 1) r t h)
+      go (passes h r t) e =
+          rw (judge-passes span spans number reached taken heights e, judge-passes span [] number reached taken heights e, judge-none (number + 1) (reached + r) (taken + t) (set heights number h)) refl
+      go (fails a) e = rw (judge-fails span spans number reached taken heights e, judge-fails span [] number reached taken heights e) refl
 
   -- ---- the loop
 

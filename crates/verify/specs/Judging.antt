@@ -38,3 +38,7 @@ module _ (S : Script) (records work : ℕ) where
     pub measured : heights′ ≡ judgeAll spans first 0 0 heights .heights
     pub records-zero : records′ ≡ replicate records 0
     pub work-zero : work′ ≡ replicate work 0
+
+-- one judgement, and after it, where all of its chunks pass, another
+unfoldable pub andThen : Judged → ((reached taken : ℕ) → (heights : List ℕ) → Judged) → Judged
+andThen judged more = elim (judged .answer) [ Passed reached taken ↦ more reached taken (judged .heights) | Refused chunk a ↦ judged ]

@@ -1,6 +1,7 @@
 // The chunks, over flat spans: each opened, walked item by item, and closed.
+ghost use mathlib.Core.List.{[], _∷_};
 ghost use mathlib.Core.Path.{_≡_};
-ghost use Prim.Native.Nat.{_+_, _≤_, min};
+ghost use Prim.Native.Nat.{_+_, _≤_, _<_, min};
 ghost use lib.ListN.{length, replicate};
 ghost use Rattle.opening.specs.Ready.{Ready, Marked};
 ghost use Rattle.rules.specs.Script.{script};
@@ -143,4 +144,59 @@ pub fn judge_spans(
         }
     };
     refusal
+}
+
+// Judges one chunk, given by three numbers: the same on one span.
+pub fn verify_span(
+    rights: u32,
+    names: &[u8],
+    chains: &[u32],
+    steps: &[u32],
+    switches: &[u32],
+    cases: &[u32],
+    ranges: &[u32],
+    code: &[u8],
+    entry: u32,
+    end: u32,
+    declared: u16,
+    number: u32,
+    marks: &[u64],
+    heights: &mut [u16],
+    records: &mut [u32],
+    work: &mut [u32],
+) -> Judgement
+    requires { ⌜ Ready (script rights (now names) (now chains) (now steps) (now switches) (now cases) (now ranges) (now code)) ⌝ }
+    requires { ⌜ Marked (now marks) (now code) ⌝ }
+    requires { ⌜ now records ≡ replicate (length (now records)) 0 ⌝ }
+    requires { ⌜ now work ≡ replicate (length (now work)) 0 ⌝ }
+    requires { ⌜ number < length (now heights) ⌝ }
+    requires { ⌜ number ≤ 1024 ⌝ }
+    ensures { λ r. ⌜ Judges
+        (script rights (now (names .entry)) (now (chains .entry)) (now (steps .entry)) (now (switches .entry)) (now (cases .entry))
+        (now (ranges .entry)) (now (code .entry)))
+        (length (now (records .entry))) (length (now (work .entry)))
+        (record { entry = entry; end = end; declared = declared } ∷ []) number (now (heights .entry))
+        r (now (heights .exit)) (now (records .exit)) (now (work .exit)) ⌝ }
+{
+    let entries = [entry];
+    let ends = [end];
+    let bounds = [declared];
+    judge_spans(
+        rights,
+        names,
+        chains,
+        steps,
+        switches,
+        cases,
+        ranges,
+        code,
+        &entries,
+        &ends,
+        &bounds,
+        number,
+        marks,
+        heights,
+        records,
+        work,
+    )
 }

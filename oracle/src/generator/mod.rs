@@ -23,6 +23,7 @@ mod tally;
 mod values;
 
 pub use limits::{with_count, LIMITS};
+pub use program::large;
 pub use rng::Rng;
 pub use room::{chunk_needs, Room};
 pub use short::ShortCodes;

@@ -22,6 +22,20 @@ pub fn good(rng: &mut Rng) -> Input {
     builder.finish()
 }
 
+/// A program of one chunk with at least so many bytes, which is accepted.
+pub fn large(rng: &mut Rng, bytes: usize) -> Input {
+    let mut builder = Builder::new(rng);
+    let entry = builder.open(0);
+    while builder.here() < bytes {
+        builder.fuel = 6;
+        statement(&mut builder);
+    }
+    stop(&mut builder);
+    let end = builder.here();
+    builder.close(entry, end);
+    builder.finish()
+}
+
 /// Chunks may come in any order and more than once.
 fn reorder(builder: &mut Builder) {
     let count = builder.input.chunks.len();
