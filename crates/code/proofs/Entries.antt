@@ -1,12 +1,14 @@
 -- The table of widths, entry by entry: one computed test over the list, and the law that turns it into the rule at each
--- tag. Where the code reads its array, antt compares the array with this list.
+-- tag; and the digits that the code keeps are these entries.
 use mathlib.Core.Bool.{Bool}
 use mathlib.Core.List.{List, [], _∷_}
 use mathlib.Core.Path.{_≡_}
-use Prim.Native.Nat.{ℕ, _<_, _^_}
-use lib.Dec.{eqb, ltb, eqb→eq, ltb→lt}
+use Prim.Native.Nat.{ℕ, _<_}
+use lib.Dec.{eqb, eqb→eq}
 use lib.ListN.{getD}
+use Rattle.code.specs.Rows.{rows}
 use Rattle.code.specs.Width.{widthOf}
+use Rattle.code.proofs.Packed.{entry, packed-at}
 use Rattle.code.proofs.Table.{each}
 
 abbrev pub entries : List ℕ
@@ -29,10 +31,6 @@ pub rule : (tag : ℕ) → tag < 256 → getD entries tag 0 ≡ widthOf tag
 unfolding isWidth
 rule tag h = eqb→eq (getD entries tag 0) (widthOf tag) (each isWidth entries tt tag h)
 
-isSmall : ℕ → ℕ → Bool
-isSmall tag w = ltb w (2 ^ 64)
-
--- and fits a `usize`
-pub small : (tag : ℕ) → tag < 256 → getD entries tag 0 < 2 ^ 64
-unfolding isSmall
-small tag h = ltb→lt (getD entries tag 0) (2 ^ 64) (each isSmall entries tt tag h)
+-- the digits of the code's rows are these entries
+pub row-entry : (tag : ℕ) → tag < 256 → entry 16 4 rows tag ≡ getD entries tag 0
+row-entry tag h = packed-at 16 4 rows entries tt tag h

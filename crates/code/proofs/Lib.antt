@@ -5,3 +5,4 @@ pub mod Little
 pub mod Once
 pub mod Layouts
 pub mod Among
+pub mod Packed

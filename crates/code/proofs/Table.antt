@@ -1,7 +1,8 @@
 -- A rule of a table from one computed test: where the test passes at every entry and its index, the rule holds at each.
 use mathlib.Core.Bool.{Bool, true, false, _&&_}
 use mathlib.Core.List.{List, [], _∷_}
-use Prim.Native.Nat.{ℕ, zero, suc, _+_, _<_}
+use mathlib.Core.Path.{_≡_, refl}
+use Prim.Native.Nat.{ℕ, zero, suc, _+_, _≤_, _<_}
 use native.Mathlib.Nat.{add-zero, zero-add, add-suc, suc-add, le-of-suc-le-suc, not-suc-le-zero}
 use lib.Dec.{T}
 use lib.ListN.{length, getD}
@@ -27,3 +28,9 @@ from test (x ∷ xs) i t (suc k) h =
 
 pub each : (test : ℕ → ℕ → Bool) (xs : List ℕ) → T (every test 0 xs) → (k : ℕ) → k < length xs → T (test k (getD xs k 0))
 each test xs t k h = rw zero-add at (from test xs 0 t k h)
+
+-- past the end of a list there is nothing
+pub past : (xs : List ℕ) (k : ℕ) → length xs ≤ k → getD xs k 0 ≡ 0
+past [] k h = refl
+past (x ∷ xs) zero h = absurd (not-suc-le-zero h)
+past (x ∷ xs) (suc k) h = past xs k (le-of-suc-le-suc h)

@@ -3,3 +3,4 @@ pub mod Width
 pub mod Numbers
 pub mod Tags
 pub mod Layout
+pub mod Rows

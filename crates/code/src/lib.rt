@@ -3,271 +3,27 @@
 // What a tag does is left to `rules`; which offsets start an instruction, to `listing`.
 ghost use mathlib.Core.Path.{_≡_};
 ghost use Prim.Native.Nat.{_+_, _≤_};
-ghost use lib.ListN.{length};
+ghost use lib.ListN.{length, getD};
 ghost use Rattle.code.specs.Numbers.{little, numberAt, numbered16, numbered32};
+ghost use Rattle.code.specs.Rows.{rows};
 ghost use Rattle.code.specs.Width.{numbered, toldAt, widthOf};
 
 pub mod tag;
 
-// The width of each tag, by its number: 0 marks a byte that is none.
-const WIDTHS: [u8; 256] = [
-    0,
-    1, // UNIT
-    1, // FALSE
-    1, // TRUE
-    1, // POP
-    1, // TICK
-    1, // CHECKPOINT
-    1, // RETURN
-    1, // THROW
-    1, // ITER_INIT
-    1, // ITER_DROP
-    1, // INTERPOLATE_START
-    1, // INTERPOLATE_APPEND
-    1, // INTERPOLATE_END
-    1, // POP_HANDLER
-    1, // IS_SHARED
-    1, // MAKE_FN_PTR
-    1, // LOAD_THIS
-    1, // LOAD_THIS_SHARED
-    1, // REQUIRE_THIS
-    1, // ASSIGN_THIS
-    2, // ROTATE
-    2, // CURRY
-    2, // CALL_FN_PTR
-    2, // CALL_FN_PTR_CAPTURE
-    2, // CALL_FN_PTR_METHOD
-    2, // CALL_FN_PTR_ON_THIS
-    3, // UNWIND_TO
-    3, // STATEMENT
-    3, // SHARE
-    3, // SHARE_NAMED
-    3, // LOAD_SHARED
-    3, // LOAD_SHARED_NAMED
-    3, // STORE_SHARED
-    3, // ASSIGN_THIS_OP
-    3, // MAKE_CLOSURE
-    3, // LOAD_CONST
-    3, // LOAD_LOCAL
-    3, // LOAD_NAMED
-    3, // STORE_LOCAL
-    3, // STORE_CONST
-    3, // DECLARE_LOCAL
-    3, // DECLARE_CONST
-    3, // DECLARE_GLOBAL_CONST
-    3, // CHAIN
-    3, // MAKE_ARRAY
-    3, // MAKE_MAP
-    3, // CHECK_ARRAY_SIZE
-    3, // CHECK_MAP_SIZE
-    3, // SWITCH
-    3, // CUSTOM_SYNTAX
-    3, // ASSIGN_NAMED
-    4, // CALL
-    4, // CALL_THIS_REF
-    4, // CALL_FN_PTR_ON_LOCAL
-    4, // CALL_FN_PTR_ON_NAMED
-    5, // JUMP
-    5, // JUMP_IF_TRUE
-    5, // JUMP_IF_FALSE
-    5, // SKIP_IF_NOT_UNIT
-    5, // ITER_NEXT
-    5, // PUSH_HANDLER
-    5, // EXPORT_LOCAL
-    5, // EXPORT_NAMED
-    5, // ASSIGN_LOCAL
-    5, // ASSIGN_NAMED_OP
-    6, // CALL_OP
-    6, // CALL_LOCAL_REF
-    6, // CALL_NAMED_REF
-    7, // ITER_NEXT_INDEXED
-    7, // PUSH_HANDLER_VAR
-    7, // ASSIGN_LOCAL_OP
-    0,
-    0,
-    0,
-    0,
-    0,
-    0,
-    0,
-    3, // IMPORT
-    0,
-    0,
-    0,
-    0,
-    0,
-    0,
-    0,
-    0,
-    0,
-    0,
-    0,
-    0,
-    0,
-    0,
-    0,
-    0,
-    0,
-    0,
-    0,
-    0,
-    0,
-    0,
-    0,
-    0,
-    0,
-    0,
-    0,
-    0,
-    0,
-    0,
-    0,
-    0,
-    0,
-    0,
-    0,
-    0,
-    0,
-    0,
-    0,
-    0,
-    0,
-    0,
-    0,
-    0,
-    0,
-    0,
-    0,
-    0,
-    0,
-    0,
-    0,
-    0,
-    0,
-    0,
-    0,
-    0,
-    0,
-    0,
-    0,
-    0,
-    0,
-    0,
-    0,
-    0,
-    0,
-    0,
-    0,
-    0,
-    0,
-    0,
-    0,
-    0,
-    0,
-    0,
-    0,
-    0,
-    0,
-    0,
-    0,
-    0,
-    0,
-    0,
-    0,
-    0,
-    0,
-    0,
-    0,
-    0,
-    0,
-    0,
-    0,
-    0,
-    0,
-    0,
-    0,
-    0,
-    0,
-    0,
-    0,
-    0,
-    0,
-    0,
-    0,
-    0,
-    0,
-    0,
-    0,
-    0,
-    0,
-    0,
-    0,
-    0,
-    0,
-    0,
-    0,
-    0,
-    0,
-    0,
-    0,
-    0,
-    0,
-    0,
-    0,
-    0,
-    0,
-    0,
-    0,
-    0,
-    0,
-    0,
-    0,
-    0,
-    0,
-    0,
-    0,
-    0,
-    0,
-    0,
-    0,
-    0,
-    0,
-    0,
-    0,
-    0,
-    0,
-    0,
-    0,
-    0,
-    0,
-    0,
-    0,
-    0,
-    0,
-    0,
-    0,
-    0,
-    0,
-    0,
-    0,
-    0,
-    0,
-    0,
-    0,
-    0,
-    0,
-    0,
-    0,
-    0,
-    0,
-    0,
-    0,
-    0,
-    0,
-    0,
-    0,
-    0,
-];
+// The widths of sixteen tags, a hexadecimal digit each, the lowest tag in the lowest digit; 0 marks a byte that is no tag. The
+// numbers stand in a `match`, since an array would be stored anew at every use.
+fn width_row(row: u8) -> u64
+    ensures { λ r. ⌜ r ≡ getD rows row 0 ⌝ }
+{
+    match row {
+        0 => 0x1111111111111110,
+        1 => 0x3333322222211111,
+        2 => 0x3333333333333333,
+        3 => 0x5555555544443333,
+        4 => 0x3000000077766655,
+        _ => 0,
+    }
+}
 
 // What stands at an offset: an instruction of so many bytes, or why there is none.
 pub enum Width {
@@ -293,8 +49,7 @@ pub enum Number32 {
 pub fn width_of(tag: u8) -> usize
     ensures { λ r. ⌜ r ≡ widthOf tag ⌝ }
 {
-    let t = tag as usize;
-    WIDTHS[t] as usize
+    ((width_row(tag / 16) >> (tag % 16 * 4)) % 16) as usize
 }
 
 // What stands at an offset. Where the code ends before the operands do, no instruction stands there.

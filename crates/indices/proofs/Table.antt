@@ -1,5 +1,5 @@
 -- The table of the code, entry by entry: one computed test that each entry is written as its tag's indices, and one that
--- each index lies within its instruction. Where the code reads its array, antt compares the array with this list.
+-- each index lies within its instruction; and what the code keeps are these entries.
 use mathlib.Core.Bool.{Bool, true, false, _&&_}
 use mathlib.Core.List.{List, [], _∷_, List·Memᴰ, List·Memᴰ·head, List·Memᴰ·tail}
 use mathlib.Core.Path.{_≡_, refl, ap, _∙_}
@@ -8,8 +8,9 @@ use lib.Dec.{T, eqb, leb, eqb→eq, leb→le}
 use lib.ListN.{getD, replicate}
 use Rattle.code.specs.Layout.{Index, indices, layout, among, indicesFrom}
 use Rattle.code.specs.Width.{widthOf}
+use Rattle.code.proofs.Packed.{entry, packed-at}
 use Rattle.code.proofs.Table.{each, left, right}
-use Rattle.indices.specs.Fields.{unpacked}
+use Rattle.indices.specs.Fields.{unpacked, rows}
 
 abbrev pub table : List ℕ
 table =
@@ -63,6 +64,10 @@ isRule tag entry = same (unpacked entry) (indices tag)
 pub rule : (tag : ℕ) → tag < 256 → unpacked (getD table tag 0) ≡ indices tag
 unfolding isRule
 rule tag h = same-is (unpacked (getD table tag 0)) (indices tag) (each isRule table tt tag h)
+
+-- what the code keeps of a tag is its entry
+pub row-entry : (tag : ℕ) → tag < 256 → entry 4 16 rows tag ≡ getD table tag 0
+row-entry tag h = packed-at 4 16 rows table tt tag h
 
 -- each index ends within so many bytes
 abbrev pub Within : ℕ → List Index → Type 0

@@ -2,282 +2,51 @@
 ghost use mathlib.Core.Path.{_≡_};
 ghost use mathlib.Core.List.{[], _∷_};
 ghost use Prim.Native.Nat.{_+_, _/_, _≤_, _<_};
-ghost use lib.ListN.{length};
+ghost use lib.ListN.{length, getD};
 ghost use Rattle.code.specs.Layout.{indices};
 ghost use Rattle.code.specs.Width.{widthAt};
-ghost use Rattle.indices.specs.Fields.{digits, unpacked};
+ghost use Rattle.indices.specs.Fields.{digits, unpacked, rows};
 ghost use Rattle.indices.specs.Indices.{firstBad, inCode, numbered, refAt, sizeOf};
 use super::Checked;
 use super::Sizes;
 use super::bounded;
 use super::pool;
 
-// Each tag's indices as four hexadecimal digits: offset and pool of the first, then of the second. 0: none.
-const FIELDS: [u16; 256] = [
-    0,
-    0, // UNIT
-    0, // FALSE
-    0, // TRUE
-    0, // POP
-    0, // TICK
-    0, // CHECKPOINT
-    0, // RETURN
-    0, // THROW
-    0, // ITER_INIT
-    0, // ITER_DROP
-    0, // INTERPOLATE_START
-    0, // INTERPOLATE_APPEND
-    0, // INTERPOLATE_END
-    0, // POP_HANDLER
-    0, // IS_SHARED
-    0, // MAKE_FN_PTR
-    0, // LOAD_THIS
-    0, // LOAD_THIS_SHARED
-    0, // REQUIRE_THIS
-    0, // ASSIGN_THIS
-    0, // ROTATE
-    0, // CURRY
-    0, // CALL_FN_PTR
-    0, // CALL_FN_PTR_CAPTURE
-    0, // CALL_FN_PTR_METHOD
-    0, // CALL_FN_PTR_ON_THIS
-    0, // UNWIND_TO
-    0, // STATEMENT
-    0, // SHARE
-    0x1200, // SHARE_NAMED
-    0, // LOAD_SHARED
-    0x1200, // LOAD_SHARED_NAMED
-    0, // STORE_SHARED
-    0x1400, // ASSIGN_THIS_OP
-    0x1200, // MAKE_CLOSURE
-    0x1100, // LOAD_CONST
-    0, // LOAD_LOCAL
-    0x1200, // LOAD_NAMED
-    0, // STORE_LOCAL
-    0, // STORE_CONST
-    0x1200, // DECLARE_LOCAL
-    0x1200, // DECLARE_CONST
-    0x1200, // DECLARE_GLOBAL_CONST
-    0x1500, // CHAIN
-    0, // MAKE_ARRAY
-    0, // MAKE_MAP
-    0, // CHECK_ARRAY_SIZE
-    0, // CHECK_MAP_SIZE
-    0x1600, // SWITCH
-    0x1700, // CUSTOM_SYNTAX
-    0x1200, // ASSIGN_NAMED
-    0x1200, // CALL
-    0x1200, // CALL_THIS_REF
-    0, // CALL_FN_PTR_ON_LOCAL
-    0x2200, // CALL_FN_PTR_ON_NAMED
-    0, // JUMP
-    0, // JUMP_IF_TRUE
-    0, // JUMP_IF_FALSE
-    0, // SKIP_IF_NOT_UNIT
-    0, // ITER_NEXT
-    0, // PUSH_HANDLER
-    0x3200, // EXPORT_LOCAL
-    0x1232, // EXPORT_NAMED
-    0x3200, // ASSIGN_LOCAL
-    0x1234, // ASSIGN_NAMED_OP
-    0x1243, // CALL_OP
-    0x1200, // CALL_LOCAL_REF
-    0x1242, // CALL_NAMED_REF
-    0, // ITER_NEXT_INDEXED
-    0, // PUSH_HANDLER_VAR
-    0x3254, // ASSIGN_LOCAL_OP
-    0,
-    0,
-    0,
-    0,
-    0,
-    0,
-    0,
-    0x1200, // IMPORT
-    0,
-    0,
-    0,
-    0,
-    0,
-    0,
-    0,
-    0,
-    0,
-    0,
-    0,
-    0,
-    0,
-    0,
-    0,
-    0,
-    0,
-    0,
-    0,
-    0,
-    0,
-    0,
-    0,
-    0,
-    0,
-    0,
-    0,
-    0,
-    0,
-    0,
-    0,
-    0,
-    0,
-    0,
-    0,
-    0,
-    0,
-    0,
-    0,
-    0,
-    0,
-    0,
-    0,
-    0,
-    0,
-    0,
-    0,
-    0,
-    0,
-    0,
-    0,
-    0,
-    0,
-    0,
-    0,
-    0,
-    0,
-    0,
-    0,
-    0,
-    0,
-    0,
-    0,
-    0,
-    0,
-    0,
-    0,
-    0,
-    0,
-    0,
-    0,
-    0,
-    0,
-    0,
-    0,
-    0,
-    0,
-    0,
-    0,
-    0,
-    0,
-    0,
-    0,
-    0,
-    0,
-    0,
-    0,
-    0,
-    0,
-    0,
-    0,
-    0,
-    0,
-    0,
-    0,
-    0,
-    0,
-    0,
-    0,
-    0,
-    0,
-    0,
-    0,
-    0,
-    0,
-    0,
-    0,
-    0,
-    0,
-    0,
-    0,
-    0,
-    0,
-    0,
-    0,
-    0,
-    0,
-    0,
-    0,
-    0,
-    0,
-    0,
-    0,
-    0,
-    0,
-    0,
-    0,
-    0,
-    0,
-    0,
-    0,
-    0,
-    0,
-    0,
-    0,
-    0,
-    0,
-    0,
-    0,
-    0,
-    0,
-    0,
-    0,
-    0,
-    0,
-    0,
-    0,
-    0,
-    0,
-    0,
-    0,
-    0,
-    0,
-    0,
-    0,
-    0,
-    0,
-    0,
-    0,
-    0,
-    0,
-    0,
-    0,
-    0,
-    0,
-    0,
-    0,
-    0,
-    0,
-    0,
-    0,
-    0,
-    0,
-    0,
-    0,
-    0,
-];
+// The indices of four tags, 16 bits each, the lowest tag lowest: four hexadecimal digits, offset and pool of the first index,
+// then of the second. 0: none. The numbers stand in a `match`, since an array would be stored anew at every use.
+fn field_row(row: u8) -> u64
+    ensures { λ r. ⌜ r ≡ getD rows row 0 ⌝ }
+{
+    match row {
+        0 => 0x0000000000000000,
+        1 => 0x0000000000000000,
+        2 => 0x0000000000000000,
+        3 => 0x0000000000000000,
+        4 => 0x0000000000000000,
+        5 => 0x0000000000000000,
+        6 => 0x0000000000000000,
+        7 => 0x0000120000000000,
+        8 => 0x1200140000001200,
+        9 => 0x0000120000001100,
+        10 => 0x1200120012000000,
+        11 => 0x0000000000001500,
+        12 => 0x1200170016000000,
+        13 => 0x2200000012001200,
+        14 => 0x0000000000000000,
+        15 => 0x1232320000000000,
+        16 => 0x1200124312343200,
+        17 => 0x3254000000001242,
+        18 => 0x0000000000000000,
+        19 => 0x1200000000000000,
+        _ => 0,
+    }
+}
 
-// The indices of a tag, as the table has them.
+// The indices of a tag.
 fn fields_of(tag: u8) -> u16
     ensures { λ r. ⌜ unpacked r ≡ indices tag ⌝ }
 {
-    let t = tag as usize;
-    FIELDS[t]
+    ((field_row(tag / 4) >> (tag % 4 * 16)) % 0x10000) as u16
 }
 
 // How many entries the pool of a number holds.

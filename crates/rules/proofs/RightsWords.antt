@@ -2,14 +2,16 @@
 use mathlib.Core.Bool.{Bool, true, false, cond}
 use mathlib.Core.List.{List, [], _∷_}
 use mathlib.Core.Path.{_≡_, refl}
-use Prim.Native.Nat.{ℕ, _<_, _/_, _+_}
+use Prim.Native.Nat.{ℕ, _<_, _/_, _+_, _%_, _*_, _^_}
 use lib.Dec.{T, eqb, leb, eqb→eq}
 use lib.ListN.{getD, replicate}
+use Rattle.code.proofs.Packed.{packed-at}
 use Rattle.code.proofs.Table.{each}
 use Rattle.code.specs.Layout.{among, tagAt, indexAt}
 use Rattle.code.specs.Tags.{IS-SHARED, MAKE-FN-PTR, LOAD-THIS, LOAD-THIS-SHARED, REQUIRE-THIS, ASSIGN-THIS, CURRY, CALL-FN-PTR, CALL-FN-PTR-CAPTURE, CALL-FN-PTR-METHOD, CALL-FN-PTR-ON-THIS, SHARE, SHARE-NAMED, ASSIGN-THIS-OP, MAKE-CLOSURE, LOAD-NAMED, CHAIN, MAKE-ARRAY, MAKE-MAP, CUSTOM-SYNTAX, IMPORT, CALL, CALL-THIS-REF, CALL-FN-PTR-ON-LOCAL, CALL-FN-PTR-ON-NAMED, EXPORT-LOCAL, EXPORT-NAMED, CALL-OP, CALL-LOCAL-REF, CALL-NAMED-REF}
 use Rattle.pools.specs.Pools.{chainAt}
 use Rattle.rules.specs.Asks.{asking, Asks}
+use Rattle.rules.specs.Packed.{asks}
 use Rattle.rules.specs.Rights.{THIS, FN-PTR, CURRYING, SHARING, ARRAY, MAP, SYNTAX, EXPORT, IMPORTING, ofName, ofChain, required}
 use Rattle.rules.specs.There.{qualifiable}
 use Rattle.rules.proofs.Tests.{same, same→eq, all, pass}
@@ -68,7 +70,7 @@ told tag word t = record {
   needed = λ code names chains steps p e. rw (eqb→eq word (asked tag) (pass 2 (tests tag word) t), ← e) (asked-needed code names chains steps p);
 }
 
--- the entries of the code's table. Where the code reads its array, antt compares the array with this list.
+-- the entries of the code's table, one by one
 abbrev pub words : List ℕ
 words =
     0 ∷ 0x00000 ∷ 0x00000 ∷ 0x00000 ∷ 0x00000 ∷ 0x00000 ∷ 0x00000 ∷ 0x00000 ∷ 0x00000 ∷ 0x00000 ∷ 0x00000 ∷ 0x00000 ∷ 0x00000 ∷ 0x00000 ∷ 0x00000 ∷ 0x00080 ∷
@@ -82,3 +84,7 @@ words =
 pub asks-at : (tag : ℕ) → tag < 256 → Asks tag (getD words tag 0)
 unfolding fits-tag
 asks-at tag h = told tag (getD words tag 0) (each fits-tag words tt tag h)
+
+-- and so does what is looked up in the number of its group
+pub asks-packed : {number : ℕ} (tag : ℕ) → tag < 256 → number ≡ getD asks (tag / 3) 0 → Asks tag (number / 2 ^ (tag % 3 * 20) % 1048576)
+asks-packed tag h e = rw (e, packed-at 3 20 asks words tt tag h) (asks-at tag h)

@@ -1,15 +1,18 @@
 -- The words of the tags: the tests that a word has to pass at its tag, and what a table tells whose words all pass them.
 use mathlib.Core.Bool.{Bool, true, _&&_, cond}
 use mathlib.Core.List.{List, [], _∷_}
-use Prim.Native.Nat.{ℕ, _<_, _/_, _%_}
+use mathlib.Core.Path.{_≡_}
+use Prim.Native.Nat.{ℕ, _<_, _/_, _%_, _*_, _^_}
 use lib.Dec.{T, eqb, leb, ltb, eqb→eq}
 use lib.ListN.{getD, replicate}
+use Rattle.code.proofs.Packed.{packed-at}
 use Rattle.code.proofs.Table.{each}
 use Rattle.code.specs.Layout.{layout, among}
 use Rattle.code.specs.Tags.{ITER-INIT, ITER-DROP, POP-HANDLER, SWITCH}
 use Rattle.code.specs.Tags.{iterNexts, pushHandlers}
 use Rattle.rules.specs.Edges.{jumping, falls, plain}
 use Rattle.rules.specs.Effects.{effect}
+use Rattle.rules.specs.Packed.{shapes}
 use Rattle.rules.specs.Paths.{iteratorsNeeded, handlersNeeded}
 use Rattle.rules.specs.Shapes.{placeFrom, Shape}
 use Rattle.rules.proofs.Tests.{same, same→eq, all, pass}
@@ -69,7 +72,7 @@ told tag word t = record {
     passes : (k : ℕ) → T (getD (tests tag word) k true)
     passes k = pass k (tests tag word) t
 
--- the words of the code's table. Where the code reads its array, antt compares the array with this list.
+-- the words of the code's table, one by one
 abbrev pub words : List ℕ
 words =
     0 ∷ 0x00100 ∷ 0x00100 ∷ 0x00100 ∷ 0x00011 ∷ 0x00000 ∷ 0x00000 ∷ 0x90011 ∷ 0x90011 ∷ 0x10011 ∷ 0x30000 ∷ 0x00100 ∷ 0x00012 ∷ 0x00111 ∷ 0x20000 ∷ 0x00111 ∷
@@ -83,3 +86,7 @@ words =
 pub shape-at : (tag : ℕ) → tag < 256 → Shape tag (getD words tag 0)
 unfolding fits-tag
 shape-at tag h = told tag (getD words tag 0) (each fits-tag words tt tag h)
+
+-- and so does what is looked up in the number of its group
+pub shape-packed : {number : ℕ} (tag : ℕ) → tag < 256 → number ≡ getD shapes (tag / 3) 0 → Shape tag (number / 2 ^ (tag % 3 * 20) % 1048576)
+shape-packed tag h e = rw (e, packed-at 3 20 shapes words tt tag h) (shape-at tag h)

@@ -18,3 +18,4 @@ pub mod Shapes
 pub mod There
 pub mod Acts
 pub mod Asks
+pub mod Packed

@@ -2,6 +2,9 @@
 // In digits of base 16, the lowest first: what the instruction needs and what it pops, each so many and 4 more for each of
 // its count n; what it pushes; where n stands, as its offset from the tag and 8 more where it has two bytes, 0 where there
 // is none; and its flow, below. A CHAIN's operands k stand in its own table, and not here.
+ghost use mathlib.Core.Path.{_≡_};
+ghost use lib.ListN.{getD};
+ghost use Rattle.rules.specs.Packed.{shapes};
 ghost use Rattle.rules.specs.Shapes.{Shape, Flow};
 
 // How control goes on, and what becomes of iterators and handlers. The groups that the rules speak of are runs of these
@@ -22,272 +25,49 @@ pub const JUMP: u32 = 7;
 
 pub const SWITCH: u32 = 8;
 
-// The words. The flow 9 is that of RETURN and THROW.
-const SHAPES: [u32; 256] = [
-    0,
-    0x00100, // UNIT
-    0x00100, // FALSE
-    0x00100, // TRUE
-    0x00011, // POP
-    0x00000, // TICK
-    0x00000, // CHECKPOINT
-    0x90011, // RETURN
-    0x90011, // THROW
-    0x10011, // ITER_INIT
-    0x30000, // ITER_DROP
-    0x00100, // INTERPOLATE_START
-    0x00012, // INTERPOLATE_APPEND
-    0x00111, // INTERPOLATE_END
-    0x20000, // POP_HANDLER
-    0x00111, // IS_SHARED
-    0x00111, // MAKE_FN_PTR
-    0x00100, // LOAD_THIS
-    0x00100, // LOAD_THIS_SHARED
-    0x00000, // REQUIRE_THIS
-    0x00011, // ASSIGN_THIS
-    0x01004, // ROTATE
-    0x01155, // CURRY
-    0x01155, // CALL_FN_PTR
-    0x01155, // CALL_FN_PTR_CAPTURE
-    0x01155, // CALL_FN_PTR_METHOD
-    0x01155, // CALL_FN_PTR_ON_THIS
-    0x00000, // UNWIND_TO
-    0x00000, // STATEMENT
-    0x00000, // SHARE
-    0x00000, // SHARE_NAMED
-    0x00100, // LOAD_SHARED
-    0x00100, // LOAD_SHARED_NAMED
-    0x00011, // STORE_SHARED
-    0x00011, // ASSIGN_THIS_OP
-    0x00100, // MAKE_CLOSURE
-    0x00100, // LOAD_CONST
-    0x00100, // LOAD_LOCAL
-    0x00100, // LOAD_NAMED
-    0x00011, // STORE_LOCAL
-    0x00011, // STORE_CONST
-    0x00011, // DECLARE_LOCAL
-    0x00011, // DECLARE_CONST
-    0x00011, // DECLARE_GLOBAL_CONST
-    0x00100, // CHAIN
-    0x09144, // MAKE_ARRAY
-    0x09188, // MAKE_MAP
-    0x00001, // CHECK_ARRAY_SIZE
-    0x00001, // CHECK_MAP_SIZE
-    0x80011, // SWITCH
-    0x00000, // CUSTOM_SYNTAX
-    0x00011, // ASSIGN_NAMED
-    0x03144, // CALL
-    0x03144, // CALL_THIS_REF
-    0x01155, // CALL_FN_PTR_ON_LOCAL
-    0x01155, // CALL_FN_PTR_ON_NAMED
-    0x70000, // JUMP
-    0x60011, // JUMP_IF_TRUE
-    0x60011, // JUMP_IF_FALSE
-    0x60001, // SKIP_IF_NOT_UNIT
-    0x40100, // ITER_NEXT
-    0x50000, // PUSH_HANDLER
-    0x00000, // EXPORT_LOCAL
-    0x00000, // EXPORT_NAMED
-    0x00011, // ASSIGN_LOCAL
-    0x00011, // ASSIGN_NAMED_OP
-    0x03144, // CALL_OP
-    0x03144, // CALL_LOCAL_REF
-    0x03144, // CALL_NAMED_REF
-    0x40100, // ITER_NEXT_INDEXED
-    0x50000, // PUSH_HANDLER_VAR
-    0x00011, // ASSIGN_LOCAL_OP
-    0,
-    0,
-    0,
-    0,
-    0,
-    0,
-    0,
-    0x00011, // IMPORT
-    0,
-    0,
-    0,
-    0,
-    0,
-    0,
-    0,
-    0,
-    0,
-    0,
-    0,
-    0,
-    0,
-    0,
-    0,
-    0,
-    0,
-    0,
-    0,
-    0,
-    0,
-    0,
-    0,
-    0,
-    0,
-    0,
-    0,
-    0,
-    0,
-    0,
-    0,
-    0,
-    0,
-    0,
-    0,
-    0,
-    0,
-    0,
-    0,
-    0,
-    0,
-    0,
-    0,
-    0,
-    0,
-    0,
-    0,
-    0,
-    0,
-    0,
-    0,
-    0,
-    0,
-    0,
-    0,
-    0,
-    0,
-    0,
-    0,
-    0,
-    0,
-    0,
-    0,
-    0,
-    0,
-    0,
-    0,
-    0,
-    0,
-    0,
-    0,
-    0,
-    0,
-    0,
-    0,
-    0,
-    0,
-    0,
-    0,
-    0,
-    0,
-    0,
-    0,
-    0,
-    0,
-    0,
-    0,
-    0,
-    0,
-    0,
-    0,
-    0,
-    0,
-    0,
-    0,
-    0,
-    0,
-    0,
-    0,
-    0,
-    0,
-    0,
-    0,
-    0,
-    0,
-    0,
-    0,
-    0,
-    0,
-    0,
-    0,
-    0,
-    0,
-    0,
-    0,
-    0,
-    0,
-    0,
-    0,
-    0,
-    0,
-    0,
-    0,
-    0,
-    0,
-    0,
-    0,
-    0,
-    0,
-    0,
-    0,
-    0,
-    0,
-    0,
-    0,
-    0,
-    0,
-    0,
-    0,
-    0,
-    0,
-    0,
-    0,
-    0,
-    0,
-    0,
-    0,
-    0,
-    0,
-    0,
-    0,
-    0,
-    0,
-    0,
-    0,
-    0,
-    0,
-    0,
-    0,
-    0,
-    0,
-    0,
-    0,
-    0,
-    0,
-    0,
-    0,
-    0,
-    0,
-    0,
-    0,
-    0,
-    0,
-    0,
-    0,
-    0,
-];
+// The words, three to a number, each at its five digits: that of the tag 3 * group in the lowest, and of the two after it
+// above. Numbers, because an array would be copied to the stack at every look. The flow 9 is that of RETURN and THROW.
+fn packed(group: u8) -> u64
+    ensures { λ r. ⌜ r ≡ getD shapes group 0 ⌝ }
+{
+    match group {
+        0 => 0x00100_00100_00000, // FALSE, UNIT, -
+        1 => 0x00000_00011_00100, // TICK, POP, TRUE
+        2 => 0x90011_90011_00000, // THROW, RETURN, CHECKPOINT
+        3 => 0x00100_30000_10011, // INTERPOLATE_START, ITER_DROP, ITER_INIT
+        4 => 0x20000_00111_00012, // POP_HANDLER, INTERPOLATE_END, INTERPOLATE_APPEND
+        5 => 0x00100_00111_00111, // LOAD_THIS, MAKE_FN_PTR, IS_SHARED
+        6 => 0x00011_00000_00100, // ASSIGN_THIS, REQUIRE_THIS, LOAD_THIS_SHARED
+        7 => 0x01155_01155_01004, // CALL_FN_PTR, CURRY, ROTATE
+        8 => 0x01155_01155_01155, // CALL_FN_PTR_ON_THIS, CALL_FN_PTR_METHOD, CALL_FN_PTR_CAPTURE
+        9 => 0x00000_00000_00000, // SHARE, STATEMENT, UNWIND_TO
+        10 => 0x00100_00100_00000, // LOAD_SHARED_NAMED, LOAD_SHARED, SHARE_NAMED
+        11 => 0x00100_00011_00011, // MAKE_CLOSURE, ASSIGN_THIS_OP, STORE_SHARED
+        12 => 0x00100_00100_00100, // LOAD_NAMED, LOAD_LOCAL, LOAD_CONST
+        13 => 0x00011_00011_00011, // DECLARE_LOCAL, STORE_CONST, STORE_LOCAL
+        14 => 0x00100_00011_00011, // CHAIN, DECLARE_GLOBAL_CONST, DECLARE_CONST
+        15 => 0x00001_09188_09144, // CHECK_ARRAY_SIZE, MAKE_MAP, MAKE_ARRAY
+        16 => 0x00000_80011_00001, // CUSTOM_SYNTAX, SWITCH, CHECK_MAP_SIZE
+        17 => 0x03144_03144_00011, // CALL_THIS_REF, CALL, ASSIGN_NAMED
+        18 => 0x70000_01155_01155, // JUMP, CALL_FN_PTR_ON_NAMED, CALL_FN_PTR_ON_LOCAL
+        19 => 0x60001_60011_60011, // SKIP_IF_NOT_UNIT, JUMP_IF_FALSE, JUMP_IF_TRUE
+        20 => 0x00000_50000_40100, // EXPORT_LOCAL, PUSH_HANDLER, ITER_NEXT
+        21 => 0x00011_00011_00000, // ASSIGN_NAMED_OP, ASSIGN_LOCAL, EXPORT_NAMED
+        22 => 0x03144_03144_03144, // CALL_NAMED_REF, CALL_LOCAL_REF, CALL_OP
+        23 => 0x00011_50000_40100, // ASSIGN_LOCAL_OP, PUSH_HANDLER_VAR, ITER_NEXT_INDEXED
+        24 => 0x00000_00000_00000, // -, -, -
+        25 => 0x00000_00000_00000, // -, -, -
+        26 => 0x00000_00011_00000, // -, IMPORT, -
+        _ => 0,
+    }
+}
 
 // A tag's word.
 pub fn shape_of(tag: u8) -> u32
     ensures { λ r. ⌜ Shape tag r ⌝ }
 {
-    let t = tag as usize;
-    SHAPES[t]
+    let place = tag % 3 * 20;
+    ((packed(tag / 3) >> place) % 0x100000) as u32
 }
 
 // A tag's flow.
