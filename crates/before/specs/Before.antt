@@ -20,8 +20,6 @@ use Rattle.rules.specs.Rights.{lacking}
 use Rattle.rules.specs.declared.Answer.{Answer}
 use Rattle.rules.specs.declared.Answer.the-variants.{TooLarge, BadTable, NoRoom, MissingCaps, Undecodable, BadIndex}
 use Rattle.before.specs.Input.{Input, sizesOf, poolSizes}
-use Rattle.rules.specs.declared.Outcome.{Outcome}
-use Rattle.rules.specs.declared.Outcome.the-variants.{Passed, Refused}
 
 -- a test passes, or refuses with an answer
 abbrev pub Test : Type 0

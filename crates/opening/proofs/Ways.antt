@@ -16,7 +16,7 @@ use Rattle.opening.specs.Listing.{fronted, opening, keepAll, AllListed}
 use Rattle.opening.specs.Opens.{KeysLaid, Refuses, Readies}
 use Rattle.opening.specs.Ready.{InCode}
 use Rattle.opening.specs.Records.{named, keys, laid}
-use Rattle.opening.specs.Tests.{spanTest, roomTest}
+use Rattle.opening.specs.Tests.{spanTest, roomTest, openTest}
 use Rattle.opening.proofs.Fronts.{drop-zeros, length-fronted, cleared}
 use Rattle.opening.proofs.Targets.{length-named, targets-below-edges, all-kept-named}
 use Rattle.opening.proofs.Tests.{Fits, room-passed, span-judged, room-judged}
@@ -47,7 +47,8 @@ keys-laid count records work r a b tail zero o = record {
 module _ (S : Script) (span : Span) where
   pub refused-by-span : {answer : Answer} (records work : List ℕ) → spanTest (S .code) (span .entry) (span .end) ≡ some answer
       → records ≡ replicate (length records) 0 → work ≡ replicate (length work) 0 → Refuses S span (length records) (length work) answer records work
-  refused-by-span records work e r w = record { judged = span-judged S span (length records) (length work) e; records-cleared = r; work-cleared = w }
+  unfolding openTest
+  refused-by-span records work e r w = record { tested = rw (e, openTest) refl; judged = span-judged S span (length records) (length work) e; records-cleared = r; work-cleared = w }
 
   module _ {lent : ℕ} {listed : Listed} {records : List ℕ}
       (A : AllListed (S .code) (S .pools .switches) (S .pools .cases) (S .pools .ranges) (span .entry) (span .end) lent listed records) where
@@ -76,7 +77,9 @@ module _ (S : Script) (span : Span) where
         → roomTest (listed .targets) (listed .edges) (length records) (length work) ≡ some answer
         → records′ ≡ replicate (listed .stored) 0 ++ drop (listed .stored) records → work ≡ replicate (length work) 0
         → Refuses S span lent (length work) answer records′ work
+    unfolding openTest
     refused-for-room work p e c w = record {
+      tested = rw (p, openTest) ((rw (counts-targets, counts-edges, long) at e));
       judged = room-judged S span lent (length work) p ((rw (counts-targets, counts-edges, long) at e));
       records-cleared = c ∙ rw (A .stored, A .kept) (cleared lent front front-fits);
       work-cleared = w;

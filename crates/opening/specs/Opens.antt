@@ -1,6 +1,7 @@
 -- What opening a chunk comes to: a refusal, with both buffers cleared, or room for its walk, with its keys in records. Document 01,
 -- "Order of the tests": "A chunk: 7; 8 if the entry is neither a start nor the code's length; room for records, work".
 use mathlib.Core.List.{List}
+use mathlib.Core.Option.{some}
 use mathlib.Core.Path.{_≡_}
 use Prim.Native.Nat.{ℕ, _+_, _*_, _≤_}
 use lib.ListN.{length, take, replicate}
@@ -15,6 +16,7 @@ use Rattle.opening.specs.declared.Room.{Room}
 use Rattle.opening.specs.Listing.{fronted}
 use Rattle.opening.specs.Ready.{InCode}
 use Rattle.opening.specs.Records.{keys, laid}
+use Rattle.opening.specs.Tests.{openTest}
 
 -- the first words put in order, r of them left, and nothing else in either buffer
 pub record KeysLaid (count : ℕ) (records work : List ℕ) (r : ℕ) (records′ work′ : List ℕ) : Type 0 where
@@ -25,6 +27,7 @@ pub record KeysLaid (count : ℕ) (records work : List ℕ) (r : ℕ) (records�
 -- where so many words of records and of work are lent
 module _ (S : Script) (span : Span) (lent-records lent-work : ℕ) where
   pub record Refuses (answer : Answer) (records′ work′ : List ℕ) : Type 0 where
+    pub tested : openTest S span lent-records lent-work ≡ some answer
     pub judged : judgeChunk S span lent-records lent-work ≡ fails answer
     pub records-cleared : records′ ≡ replicate lent-records 0
     pub work-cleared : work′ ≡ replicate lent-work 0

@@ -1,7 +1,7 @@
 -- What a script is that passed everything before the chunks, as far as a chunk looks at it. Document 01, "Order of the tests":
 -- what stands before "chunks upward" there, and "At most: code 65,536 bytes".
 use mathlib.Core.Bool.{true, _||_}
-use mathlib.Core.List.{List, []}
+use mathlib.Core.List.{List}
 use mathlib.Core.Path.{_≡_}
 use Prim.Native.Nat.{ℕ, _+_, _≤_, _<_}
 use lib.Dec.{eqb}

@@ -10,8 +10,8 @@ use Rattle.code.specs.Layout.{among}
 use Rattle.listing.specs.Listing.{starts}
 use Rattle.rules.specs.declared.Answer.{Answer}
 use Rattle.rules.specs.declared.Answer.the-variants.{NoRoom, ChunkOutOfRange, Misaligned}
-use Rattle.rules.specs.declared.Outcome.{Outcome}
-use Rattle.rules.specs.declared.Outcome.the-variants.{Passed, Refused}
+use Rattle.rules.specs.Edges.{T, E}
+use Rattle.rules.specs.Script.{Script, Span}
 
 -- a refusal, or none
 abbrev pub Test : Type 0
@@ -28,3 +28,8 @@ unfoldable pub roomTest : (targets edges records work : ℕ) → Test
 roomTest targets edges records work =
     cond (ltb records (4 * (1 + targets))) (some (NoRoom (4 * (1 + targets)) 3))
     (cond (ltb work (4 * (1 + edges))) (some (NoRoom (4 * (1 + edges)) 4)) none)
+
+-- all of them, of a chunk
+unfoldable pub openTest : Script → Span → (records work : ℕ) → Test
+openTest S span records work =
+    elim (spanTest (S .code) (span .entry) (span .end)) [ some answer ↦ some answer | none ↦ roomTest (T S span) (E S span) records work ]

@@ -3,7 +3,6 @@
 -- lacks); 12; 15 for ITER_DROP, 16 for POP_HANDLER; then edges, each target tested for 9, then 10, and the fall-through pushed
 -- last. ITER_NEXT* tests 15 before its target [...]. A plain instruction whose successor is not before the end gives 13."
 use mathlib.Core.Bool.{_&&_, cond}
-use mathlib.Core.List.{List, []}
 use mathlib.Core.Option.{Option, none, some}
 use Prim.Native.Nat.{ℕ}
 use lib.Dec.{ltb, leb}
@@ -16,8 +15,6 @@ use Rattle.rules.specs.Paths.{iteratorsNeeded, handlersNeeded}
 use Rattle.rules.specs.Rule.{rule}
 use Rattle.rules.specs.Script.{Script, Span, tagOf}
 use Rattle.ruling.specs.declared.Edges.{Edges}
-use Rattle.rules.specs.declared.Outcome.{Outcome}
-use Rattle.rules.specs.declared.Outcome.the-variants.{Passed, Refused}
 use Rattle.ruling.specs.declared.Ruling.{Ruling}
 use Rattle.ruling.specs.declared.Ruling.the-variants.{Denies, Gives}
 

@@ -7,17 +7,16 @@ use Prim.Native.Nat.{ℕ, _+_, _^_, _≤_, _<_}
 use native.Mathlib.Omega.{arith}
 use lib.ListN.{length, set, replicate, length-replicate}
 use Rattle.before.specs.Before.{Test, first, beforeStores, afterStores, beforeChunks}
-use Rattle.before.specs.Input.{Input, sizesOf}
-use Rattle.before.specs.Memory.{marksOf, marksFrom, marksAfter, ForChunks}
+use Rattle.before.specs.Input.{Input}
+use Rattle.before.specs.Memory.{marksOf, marksFrom, ForChunks}
 use Rattle.before.proofs.Established as known
-use Rattle.before.proofs.Tests.{last}
 use Rattle.code.specs.Width.{widthOf}
 use Rattle.code.proofs.Widths.{width-there}
 use Rattle.listing.specs.Listing.{starts}
 use Rattle.listing.proofs.Starts.{listed-start, rising, start-wide}
 use Rattle.marks.specs.Marks.{total}
 use Rattle.marks.proofs.Counts.{rising-length}
-use Rattle.opening.specs.Ready.{Listable, Ready, Marked}
+use Rattle.opening.specs.Ready.{Ready, Marked}
 use Rattle.pools.specs.Sizes.{maxCode}
 use Rattle.rules.specs.Answer.{noChunk, numbered, told}
 use Rattle.rules.specs.Chunk.{passes, fails, measured, judgeChunk, walked}
@@ -37,7 +36,7 @@ use Rattle.rules.proofs.Lists.{zero≢one}
 use Rattle.verify.specs.Judging.{Judged, judgeAll, Judges}
 use Rattle.verify.specs.declared.spans.Judgement.{Judgement}
 use Rattle.verify.specs.declared.spans.Judgement.the-variants.{Passed as AllPass, Refused as Failed}
-use Rattle.verify.specs.Call.{Memory, Result, BothClear, verdictOn, marksOn, Concludes, stored, startBits, concluded, onward, outcome, result, Calls}
+use Rattle.verify.specs.Call.{Memory, BothClear, verdictOn, marksOn, Concludes, startBits, concluded, onward, outcome, Calls}
 use Rattle.verify.proofs.Chain.{judge-passes, judge-fails}
 use Rattle.verify.proofs.Sorts.{early-kind, late-kind}
 

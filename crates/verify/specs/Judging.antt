@@ -4,7 +4,7 @@
 use mathlib.Core.List.{List, [], _∷_}
 use mathlib.Core.Path.{_≡_}
 use Prim.Native.Nat.{ℕ, _+_}
-use lib.ListN.{length, set, replicate}
+use lib.ListN.{set, replicate}
 use Rattle.rules.specs.Chunk.{passes, fails, judgeChunk}
 use Rattle.rules.specs.Script.{Script, Span}
 use Rattle.verify.specs.declared.spans.Judgement.{Judgement}

@@ -1,38 +1,35 @@
 -- A chunk's walk, item by item over the words, is the walk of the definition: it begins, goes on, and ends as that one does.
-use mathlib.Core.Bool.{Bool, true, false, cond}
+use mathlib.Core.Bool.{cond}
 use mathlib.Core.List.{List, [], _∷_}
-use mathlib.Core.Option.{none, some}
 use mathlib.Core.Path.{_≡_, refl, sym, ap, _∙_, subst}
-use Prim.Native.Nat.{ℕ, _+_, _-_, _*_, _≤_, _<_}
+use Prim.Native.Nat.{ℕ, _+_, _-_, _≤_}
 use native.Mathlib.Omega.{arith}
 use lib.Dec.{ltb}
 use lib.ListN.{length}
-use Rattle.order.specs.Order.{below}
 use Rattle.code.specs.Width.{widthOf}
 use Rattle.listing.proofs.Before.{before-few}
 use Rattle.rules.specs.declared.Answer.{Answer}
 use Rattle.rules.specs.declared.Answer.the-variants.{StackExceedsDeclared}
-use Rattle.rules.specs.Chunk.{Judged, passes, fails, measured, walked, judgeChunk, redeclared, BeforeWalk}
+use Rattle.rules.specs.Chunk.{passes, fails, measured, walked, judgeChunk, redeclared, BeforeWalk}
 use Rattle.rules.specs.Depths.{Item}
-use Rattle.rules.specs.Edges.{T, E, chunkStarts}
+use Rattle.rules.specs.Edges.{T, E}
 use Rattle.rules.specs.Machine.{origin}
 use Rattle.rules.specs.Rule.{machine, rule, judge}
 use Rattle.rules.specs.Script.{Script, Span}
-use Rattle.rules.specs.Walk.{Book, blank, Turn, goes-on, stops, Run, accepted, refused, unfinished, run, walk, turn, Log, log}
+use Rattle.rules.specs.Walk.{Book, blank, Turn, goes-on, stops, Run, accepted, refused, unfinished, run, walk, Log, log}
 use Rattle.rules.proofs.Demand.{judged-walks}
 use Rattle.rules.proofs.Ends.{accepted-bounded, refused-bounded}
 use Rattle.rules.proofs.Keeps.{keeps-laws}
-use Rattle.rules.proofs.Lists.{zero≢one}
 use Rattle.rules.proofs.Slices.{next-goes-on, next-stops, stays-accepted, stays-refused}
 use Rattle.rules.proofs.Stores.{Tells, same-accepted, same-refused}
-use Rattle.rules.proofs.Turn.{Taken, again, enters, refuses, turn-is, taken-so}
+use Rattle.rules.proofs.Turn.{Taken, again, enters, turn-is, taken-so}
 use Rattle.words.specs.Stack.{items, Clear}
 use Rattle.words.proofs.Items.{items-none}
 use Rattle.walk.specs.declared.Hand.{Hand}
 use Rattle.opening.specs.declared.Room.{Room}
 use Rattle.opening.specs.Records.{keys, laid}
 use Rattle.walk.specs.Records.{seenStore}
-use Rattle.walk.specs.Units.{itemOf, bookOf, firstHand, spanOf, turnOf, Going, GoesOn, Ends, Stops}
+use Rattle.walk.specs.Units.{itemOf, bookOf, firstHand, spanOf, turnOf, Going, GoesOn, Ends}
 use Rattle.walk.proofs.Store.{Fit, faithful, laid-fit, laid-empty}
 
 -- the same chunk with another height declared passed the same checks

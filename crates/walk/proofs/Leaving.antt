@@ -1,15 +1,14 @@
 -- Leaving an instruction: the depths noted and the jumps pushed leave the words as falling through and taking back need them.
 use mathlib.Core.Bool.{true, false}
-use mathlib.Core.List.{List, _∷_}
-use mathlib.Core.Path.{_≡_, refl, sym, ap, _∙_}
+use mathlib.Core.List.{List}
+use mathlib.Core.Path.{_≡_, refl, ap, _∙_}
 use Prim.Native.Nat.{ℕ, _+_, _*_, _≤_}
 use native.Mathlib.Omega.{arith}
 use lib.ListN.{length, take, length-map}
 use Rattle.order.specs.Order.{Rising, below}
-use Rattle.rules.specs.Depths.{Item}
 use Rattle.rules.proofs.Lists.{zero≢one}
 use Rattle.ruling.specs.declared.Edges.{Edges}
-use Rattle.words.specs.Stack.{putAll, Clear}
+use Rattle.words.specs.Stack.{Clear}
 use Rattle.words.proofs.Items.{clear-putAll, length-putAll}
 use Rattle.walk.specs.declared.Hand.{Hand}
 use Rattle.opening.specs.declared.Room.{Room}

@@ -8,18 +8,16 @@ use lib.ListN.{length}
 use Rattle.code.specs.Width.{widthOf}
 use Rattle.listing.proofs.Before.{before-few}
 use Rattle.rules.specs.Chunk.{BeforeWalk}
-use Rattle.rules.specs.declared.Answer.{Answer}
 use Rattle.rules.specs.Edges.{E, degree, chunkStarts}
 use Rattle.rules.specs.Lists.{here}
 use Rattle.rules.specs.Rule.{machine}
 use Rattle.rules.specs.Script.{Script, Span}
 use Rattle.rules.specs.Script as script
 use Rattle.rules.specs.Walk.{Book, Log, unfinished, walk, log}
-use Rattle.rules.proofs.Counts.{AtMost}
-use Rattle.rules.proofs.Ends.{Bounded, Roomy}
+use Rattle.rules.proofs.Ends.{Bounded}
 use Rattle.rules.proofs.Inside.{inside}
 use Rattle.rules.proofs.Keeps.{keeps-laws}
-use Rattle.rules.proofs.Laws.{Laws, InChunk}
+use Rattle.rules.proofs.Laws.{InChunk}
 use Rattle.rules.proofs.Once.{item-inside}
 use Rattle.rules.proofs.Sound.{sound-unfinished}
 use Rattle.rules.proofs.Stores.{Tells, same-unfinished, store-bounded, store-roomy}
@@ -28,7 +26,6 @@ use Rattle.words.specs.Stack.{items}
 use Rattle.words.proofs.Items.{length-items}
 use Rattle.walk.specs.declared.Hand.{Hand}
 use Rattle.opening.specs.declared.Room.{Room}
-use Rattle.opening.specs.Records.{laid}
 use Rattle.walk.specs.Records.{seenStore}
 use Rattle.walk.specs.Units.{itemOf, bookOf, spanOf, Going}
 use Rattle.walk.proofs.Store.{Fit, faithful, laid-fit, laid-empty}

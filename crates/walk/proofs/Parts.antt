@@ -1,22 +1,21 @@
 -- The parts of a turn: a key tested, jumps pushed one by one, the item pushed last taken back.
-use mathlib.Core.Bool.{Bool, true, false, _&&_, cond}
-use mathlib.Core.List.{List, [], _∷_, map}
+use mathlib.Core.Bool.{Bool, true, false, _&&_}
+use mathlib.Core.List.{List}
 use mathlib.Core.Path.{_≡_, refl, sym, ap, _∙_}
 use Prim.Native.Nat.{ℕ, suc, _+_, _-_, _*_, _≤_, _<_}
-use native.Mathlib.Numerals.{unary-clauses}
 use native.Mathlib.Omega.{arith}
-use borrow.Author.Tests.{ltb-true, lt-ltb, le-ltb}
+use borrow.Author.Tests.{ltb-true}
 use lib.Dec.{ltb, eqb}
 use lib.ListN.{length, getD, drop, drop-of-length-le}
 use lib.Seq.{drop-cons}
 use Rattle.order.specs.Order.{below}
 use Rattle.rules.specs.declared.Depths.{Depths}
-use Rattle.rules.specs.Depths.{Item, zeros}
+use Rattle.rules.specs.Depths.{zeros}
 use Rattle.rules.proofs.Lists.{zero≢one}
 use Rattle.words.specs.Stack.{itemAt, items, put, putAll, Clear}
 use Rattle.words.proofs.Items.{length-put, items-on, items-kept, clear-top}
 use Rattle.walk.specs.declared.Hand.{Hand}
-use Rattle.walk.specs.Units.{itemOf, jumpsTo, Pushed, TakenBack}
+use Rattle.walk.specs.Units.{jumpsTo, Pushed, TakenBack}
 
 -- ---- a key
 

@@ -1,9 +1,9 @@
 -- What a turn comes to: from what the parts of the code leave to the turn of the walk.
 use mathlib.Core.Bool.{Bool, true, false, cond}
-use mathlib.Core.List.{List, [], _∷_}
+use mathlib.Core.List.{List}
 use mathlib.Core.Option.{none, some}
-use mathlib.Core.Path.{_≡_, refl, sym, ap, _∙_, subst}
-use Prim.Native.Nat.{ℕ, _+_, _*_, _≤_, _<_}
+use mathlib.Core.Path.{_≡_, refl, sym, _∙_, subst}
+use Prim.Native.Nat.{ℕ, _+_, _≤_, _<_}
 use native.Mathlib.Omega.{arith}
 use lib.ListN.{length, take, length-map}
 use Rattle.rules.specs.declared.Answer.{Answer}
@@ -14,7 +14,7 @@ use Rattle.rules.specs.Edges.{falls, targets, after, jumped, next}
 use Rattle.rules.specs.Machine.{gives, fallTo}
 use Rattle.rules.specs.Rule.{machine, rule, judge}
 use Rattle.rules.specs.Script.{Script, tagOf}
-use Rattle.rules.specs.Walk.{dropped, entered, goes-on, stops, firstBad, push, seen}
+use Rattle.rules.specs.Walk.{goes-on, stops, firstBad, push, seen}
 use Rattle.rules.specs.Walk as definition
 use Rattle.rules.proofs.Agree.{agree-true, agree-refl}
 use Rattle.rules.proofs.Lists.{zero≢one}
@@ -29,8 +29,8 @@ use Rattle.walk.specs.declared.Turn.{Turn}
 use Rattle.walk.specs.declared.Turn.the-variants.{Next, Done, Refused}
 use Rattle.opening.specs.Records.{keys}
 use Rattle.walk.specs.Records.{seenStore}
-use Rattle.walk.specs.Units.{itemOf, bookOf, jumpsTo, fallen, droppedHand, enteredHand, Leaves, Left, Back, spanOf, turnOf, AtItem, Unseen, Comes, Took}
-use Rattle.walk.proofs.Turns.{front, noted-so, leaves, entered-turn}
+use Rattle.walk.specs.Units.{itemOf, bookOf, jumpsTo, droppedHand, enteredHand, Leaves, Left, Back, spanOf, turnOf, AtItem, Unseen, Comes, Took}
+use Rattle.walk.proofs.Turns.{front, noted-so, entered-turn}
 
 module _ (S : Script) (room : Room) where
   -- a turn that goes on with what waits, where the item pushed last was then taken back

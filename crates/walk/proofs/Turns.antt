@@ -1,14 +1,14 @@
 -- From the parts of a turn to the turn: what the words say is what the walk over the store says.
 use mathlib.Core.Bool.{Bool, true, false, _&&_, cond}
-use mathlib.Core.List.{List, [], _∷_, map}
-use mathlib.Core.Option.{Option, none, some}
-use mathlib.Core.Path.{_≡_, refl, sym, ap, _∙_}
+use mathlib.Core.List.{List}
+use mathlib.Core.Option.{none, some}
+use mathlib.Core.Path.{_≡_, refl, sym, _∙_}
 use Prim.Native.Nat.{ℕ, _+_, _*_, _^_, _≤_, _<_}
 use native.Mathlib.Decide.{decLt}
 use native.Mathlib.Omega.{arith}
-use borrow.Author.Tests.{lt-ltb, le-ltb, ltb-true, ltb-false, eq-eqb, eqb-true}
+use borrow.Author.Tests.{lt-ltb, le-ltb, eq-eqb, eqb-true}
 use lib.Dec.{ltb, eqb}
-use lib.ListN.{length, getD, take, length-map}
+use lib.ListN.{length, getD, take}
 use lib.Seq.{getD-take}
 use Rattle.code.specs.Layout.{among}
 use Rattle.code.specs.Width.{widthOf, widthAt}
@@ -17,31 +17,23 @@ use Rattle.listing.proofs.Starts.{start-wide}
 use Rattle.order.specs.Order.{Rising, below}
 use Rattle.order.proofs.Laws.{below-mono}
 use Rattle.rules.specs.declared.Answer.{Answer}
-use Rattle.rules.specs.declared.Depths.{Depths}
-use Rattle.rules.specs.Depths.{Item, agree}
-use Rattle.rules.specs.Edges.{T, E, degree, falls, targets, targetsOf, after, jumped, next}
+use Rattle.rules.specs.Edges.{degree, falls, targets, after, jumped, next}
 use Rattle.rules.specs.Machine.{denies, gives, fallTo}
 use Rattle.rules.specs.Rule.{machine, rule, judge}
 use Rattle.rules.specs.Script.{Script, Span, tagOf}
-use Rattle.rules.specs.Walk.{Book, dropped, entered, goes-on, stops, firstBad, push, seen, turn}
+use Rattle.rules.specs.Walk.{entered, goes-on, stops, firstBad, push, seen}
 use Rattle.rules.specs.Walk as definition
-use Rattle.rules.proofs.Agree.{agree-true}
 use Rattle.rules.proofs.Laws.{Passes}
 use Rattle.rules.proofs.Lists.{zero≢one}
-use Rattle.rules.proofs.Turn.{New, Again, Enters, Refuses, is-off, clashes, is-denied, jumps-badly, again, enters, refuses, turn-is, seen-named, seen-other}
-use Rattle.ruling.specs.declared.Edges.{Edges}
-use Rattle.ruling.specs.Ruling.{edgesOf}
+use Rattle.rules.proofs.Turn.{New, is-denied, jumps-badly, enters, refuses, turn-is, seen-named, seen-other}
 use Rattle.words.specs.Seen.{seenAt, noteAt}
-use Rattle.words.specs.Stack.{items, putAll, Clear}
-use Rattle.words.proofs.Items.{items-none, items-putAll, clear-putAll, length-putAll}
+use Rattle.words.specs.Stack.{items}
 use Rattle.words.proofs.Notes.{length-note}
 use Rattle.walk.specs.declared.Hand.{Hand}
 use Rattle.opening.specs.declared.Room.{Room}
-use Rattle.walk.specs.declared.Turn.{Turn}
-use Rattle.walk.specs.declared.Turn.the-variants.{Next, Done, Refused}
 use Rattle.opening.specs.Records.{named, keys}
 use Rattle.walk.specs.Records.{slotOf, seenStore}
-use Rattle.walk.specs.Units.{itemOf, bookOf, jumpsTo, fallen, droppedHand, enteredHand, noted, Leaves, Left, Back, spanOf, turnOf, AtItem, Unseen, GoesOn, Ends, Stops, Comes, Took}
+use Rattle.walk.specs.Units.{itemOf, bookOf, jumpsTo, noted, Leaves, spanOf, turnOf, AtItem, Unseen}
 use Rattle.walk.proofs.Moment.{fit, in-chunk, small, roomy}
 use Rattle.walk.proofs.Store.{take-note}
 use Rattle.opening.proofs.Targets.{few-keys, keys-rise, named-key, key-named, key-there, there-key}

@@ -1,12 +1,11 @@
--- What records hold while a chunk is walked: behind the keys, three words for each of them, the depths with which it was seen. Document 01, "Flat pools and sizes": "records, 4 × (1 + T)"; "Order of the tests":
--- "place that is the entry or a named target and was seen before".
+-- What records hold while a chunk is walked: behind the keys, three words for each of them, the depths with which it was seen.
+-- Document 01, "Flat pools and sizes": "records, 4 × (1 + T)"; "Order of the tests": "and was seen before".
 use mathlib.Core.Bool.{cond}
 use mathlib.Core.List.{List}
 use Prim.Native.Nat.{ℕ, _+_, _*_}
 use Rattle.code.specs.Layout.{among}
 use Rattle.opening.specs.Records.{keys}
 use Rattle.order.specs.Order.{below}
-use Rattle.rules.specs.Depths.{Item}
 use Rattle.rules.specs.Edges.{T}
 use Rattle.rules.specs.Script.{Script, Span}
 use Rattle.rules.specs.Walk.{Store}

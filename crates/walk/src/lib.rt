@@ -1,6 +1,6 @@
-// One chunk's units: an instruction listed, an item taken; records and work as lent words.
-// Each unit is one step of the definition of the walk. Every word of records and work is fixed by each contract.
-// Left to `verify`: the loops over these units, the order of the chunks, and the memory at the end of the call.
+// One item of a chunk's walk taken, and the two ends of the walk.
+// Taking an item is one turn of the definition of the walk, and every word of records and work is fixed by its contract.
+// Left to `verify`: the loops over items and chunks, and the memory at the end of the call.
 pub mod chunk;
 pub mod item;
 

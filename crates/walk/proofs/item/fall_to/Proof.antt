@@ -1,7 +1,5 @@
 -- `walk::item::fall_to` meets its contract: the pointer among the keys moves along.
-use mathlib.Core.Path.{ap}
 use borrow.Author.Needs.{needs}
-use Rattle.walk.specs.Units.{fallen}
 use Rattle.walk.proofs.item.fall_to.Statement.{statement}
 use Rattle.walk.proofs.item.fall_to.Tie as tie
 

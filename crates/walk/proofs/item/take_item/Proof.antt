@@ -1,12 +1,10 @@
 -- `walk::item::take_item` meets its contract: past the end, at a place seen before, or at a new one.
-use mathlib.Core.Option.{none, some}
 use mathlib.Core.Path.{_≡_, sym, ap, _∙_}
 use native.Mathlib.Omega.{arith}
 use borrow.Author.Needs.{needs}
 use denote.Ref.{now}
 use lib.ListN.{length}
 use Prim.Native.Nat.{_^_, _<_}
-use Rattle.rules.specs.declared.Depths.{Depths}
 use Rattle.rules.specs.Rule.{machine}
 use Rattle.rules.specs.Script.{Script}
 use Rattle.rules.specs.Walk.{seen}
