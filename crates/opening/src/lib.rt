@@ -90,8 +90,9 @@ pub fn list_instruction(
         (fallAt (now (code .entry)) (now (switches .entry)) (now (cases .entry)) (now (ranges .entry)) at)
         before (now (records .entry)) r (now (records .exit)) ⌝ }
 {
-    let count = rules::edges::target_count(code, at, switches);
-    let edges = rules::edges::edge_count(code, at, switches);
+    let flow = rules::shapes::flow_of(rules::shapes::word_at(code, at));
+    let count = rules::edges::target_count(flow, code, at, switches);
+    let edges = rules::edges::edge_count(flow, count);
     let stored = before.stored;
     let left = records.len() - stored;
     if (left as u64) < count {

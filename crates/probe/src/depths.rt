@@ -1,10 +1,12 @@
 // What a tag asks of the depths, and what becomes of them, in numbers. Number 0 where the depths are such as the rules ask
 // for; number 1 and zeros where not.
 ghost use mathlib.Core.Path.{_≡_};
+ghost use Rattle.rules.specs.Shapes.{Flow};
 ghost use Rattle.probe.specs.Depths.{holds, fits, none, AfterSame, JumpedSame, NeededSame};
 use rules::Depths;
 use rules::Effect;
 use rules::edges;
+use rules::shapes;
 
 #[repr(C)]
 pub struct DepthsTold {
@@ -23,14 +25,22 @@ pub struct NeededTold {
     pub plain: u64,
 }
 
+// A tag's flow.
+fn flow_of(tag: u8) -> u32
+    ensures { λ r. ⌜ Flow tag r ⌝ }
+{
+    shapes::flow_of(shapes::shape_of(tag))
+}
+
 // The iterators and handlers that a tag needs are there, and one more of each fits.
 fn has_depths(tag: u8, iterators: u32, handlers: u32) -> bool
     ensures { λ r. ⌜ r ≡ holds tag iterators handlers ⌝ }
 {
-    if iterators < edges::iterators_needed(tag) {
+    let flow = flow_of(tag);
+    if iterators < edges::iterators_needed(flow) {
         return false;
     }
-    if handlers < edges::handlers_needed(tag) {
+    if handlers < edges::handlers_needed(flow) {
         return false;
     }
     if iterators == 0xffff_ffff {
@@ -90,7 +100,7 @@ pub extern "C" fn probe_after(
         iterators,
         handlers,
     };
-    let after = edges::after(tag, effect, before);
+    let after = edges::after(flow_of(tag), effect, before);
     DepthsTold {
         number: 0,
         operands: after.operands as u64,
@@ -125,7 +135,7 @@ pub extern "C" fn probe_jumped(
         iterators: iterators_after,
         handlers: handlers_after,
     };
-    let jumped = edges::jumped(tag, before, after);
+    let jumped = edges::jumped(flow_of(tag), before, after);
     DepthsTold {
         number: 0,
         operands: jumped.operands as u64,
@@ -139,10 +149,11 @@ pub extern "C" fn probe_jumped(
 pub extern "C" fn probe_needed(tag: u8) -> NeededTold
     ensures { λ r. ⌜ NeededSame tag r ⌝ }
 {
-    let iterators = edges::iterators_needed(tag);
-    let handlers = edges::handlers_needed(tag);
-    let falls = edges::falls(tag);
-    let plain = edges::plain(tag);
+    let flow = flow_of(tag);
+    let iterators = edges::iterators_needed(flow);
+    let handlers = edges::handlers_needed(flow);
+    let falls = edges::falls(flow);
+    let plain = edges::plain(flow);
     NeededTold {
         iterators: iterators as u64,
         handlers: handlers as u64,

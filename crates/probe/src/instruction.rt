@@ -7,6 +7,7 @@ use crate::entries;
 use rules::edges;
 use rules::effects;
 use rules::rights;
+use rules::shapes;
 
 #[repr(C)]
 pub struct EffectTold {
@@ -38,7 +39,7 @@ pub extern "C" fn probe_effect(
             pushes: 0,
         };
     }
-    let effect = effects::effect(code, at, chains);
+    let effect = effects::effect(shapes::word_at(code, at), code, at, chains);
     EffectTold {
         number: 0,
         needs: effect.needs as u64,
@@ -96,9 +97,10 @@ pub extern "C" fn probe_targets(
             value: 0,
         };
     }
+    let flow = shapes::flow_of(shapes::word_at(code, at));
     Told {
         number: 0,
-        value: edges::target_count(code, at, switches),
+        value: edges::target_count(flow, code, at, switches),
     }
 }
 
@@ -123,9 +125,11 @@ pub extern "C" fn probe_edges(
             value: 0,
         };
     }
+    let flow = shapes::flow_of(shapes::word_at(code, at));
+    let targets = edges::target_count(flow, code, at, switches);
     Told {
         number: 0,
-        value: edges::edge_count(code, at, switches),
+        value: edges::edge_count(flow, targets),
     }
 }
 
@@ -151,7 +155,8 @@ pub extern "C" fn probe_target(
             value: 0,
         };
     }
-    if edges::target_count(code, at, switches) <= k as u64 {
+    let flow = shapes::flow_of(shapes::word_at(code, at));
+    if edges::target_count(flow, code, at, switches) <= k as u64 {
         return Told {
             number: 1,
             value: 0,

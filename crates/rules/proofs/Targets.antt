@@ -12,7 +12,7 @@ use Rattle.code.specs.Layout.{among, tagAt, indexAt, targetAt}
 use Rattle.code.specs.Tags.{SWITCH}
 use Rattle.code.specs.Width.{widthAt}
 use Rattle.pools.specs.Pools.{whole, switchAt}
-use Rattle.rules.specs.Edges.{jumping, falls, armsOf, targetsOf}
+use Rattle.rules.specs.Edges.{jumping, armsOf, targetsOf}
 use Rattle.rules.specs.Shapes.{Flow}
 use Rattle.rules.specs.There.{SwitchEntry, SwitchWhole, SwitchThere}
 use Rattle.rules.proofs.Arms.{arms-length}
@@ -124,18 +124,3 @@ one-more b e t = rw (e, t) refl
 
 pub no-more : {n targets : ℕ} (b : Bool) → n ≡ targets → b ≡ false → n ≡ targets + cond b 1 0
 no-more b e t = rw (e, t) (omega arith)
-
--- which then are at most one, since a SWITCH doesn't fall through
-pub few-targets : (code switches cases ranges : List ℕ) (at : ℕ) → falls (tagAt code at) ≡ true
-    → length (targetsOf code switches cases ranges at) ≤ 1
-unfolding targetsOf falls among
-few-targets code switches cases ranges at f = go (eqb (tagAt code at) SWITCH) refl (among (tagAt code at) jumping)
-  where
-    go : (s : Bool) → eqb (tagAt code at) SWITCH ≡ s → (j : Bool)
-        → length (cond j (targetAt code at ∷ []) (cond s (armsOf cases ranges (switchAt switches (indexAt code at))) [])) ≤ 1
-    go true e j =
-        let never : falls SWITCH ≡ true = rw (eqb-true (tagAt code at) SWITCH e) at f in
-        let z : _≡_ {A = ℕ} 0 1 = ap (λ (b : Bool). cond b 1 0) never in
-        absurd (omega arith)
-    go false e true = omega arith
-    go false e false = omega arith

@@ -11,6 +11,7 @@ use Rattle.code.specs.Tags.{LOAD-NAMED, CHAIN, SWITCH, CALL, CALL-THIS-REF, CAL
 use Rattle.pools.specs.Pools.{whole, chainAt, switchAt}
 use Rattle.rules.specs.declared.Depths.{Depths}
 use Rattle.rules.specs.Paths.{iteratorsNeeded, handlersNeeded}
+use Rattle.rules.specs.Shapes.{Flow}
 
 -- the chain of this number is in its table, and its steps are in theirs
 pub record ChainWhole (chains steps : List ℕ) (i : ℕ) : Type 0 where
@@ -49,3 +50,9 @@ pub record Held (tag : ℕ) (d : Depths) : Type 0 where
   pub handlers : handlersNeeded tag ≤ d .handlers
   pub iterators-fit : d .iterators + 1 < 2 ^ 32
   pub handlers-fit : d .handlers + 1 < 2 ^ 32
+
+-- a tag of this flow does
+pub record HeldBy (flow : ℕ) (d : Depths) : Type 0 where
+  pub tag : ℕ
+  pub flows : Flow tag flow
+  pub held : Held tag d

@@ -1,4 +1,5 @@
-// Where an instruction leads to, and with which depths: document 01's targets and edges.
+// Where an instruction leads to, and with which depths: document 01's targets and edges. What depends on the tag alone goes
+// by its flow (shapes), so that whoever asks several of these looks the tag up once.
 ghost use mathlib.Core.Bool.{cond};
 ghost use mathlib.Core.List.{List};
 ghost use mathlib.Core.Path.{_≡_};
@@ -9,7 +10,8 @@ ghost use Rattle.code.specs.Width.{widthAt};
 ghost use Rattle.pools.specs.Pools.{switchAt};
 ghost use Rattle.rules.specs.Edges.{falls, plain, armsOf, targetsOf, afterOf, jumpedOf};
 ghost use Rattle.rules.specs.Paths.{iteratorsNeeded, handlersNeeded};
-ghost use Rattle.rules.specs.There.{SwitchEntry, SwitchWhole, SwitchThere, Held};
+ghost use Rattle.rules.specs.Shapes.{Flow};
+ghost use Rattle.rules.specs.There.{SwitchEntry, SwitchWhole, SwitchThere, HeldBy};
 use crate::Depths;
 use crate::Effect;
 use crate::shapes;
@@ -17,53 +19,47 @@ use code::tag;
 use pools::CASE_WORDS;
 use pools::SWITCH_WORDS;
 
-// Control goes on to the next instruction after this tag.
-pub fn falls(tag: u8) -> bool
-    ensures { λ r. ⌜ r ≡ falls tag ⌝ }
+// Control goes on to the next instruction after a tag of this flow.
+pub fn falls(flow: u32) -> bool
+    ensures { λ r. ⌜ ((tag : ℕ) → Flow tag flow → r ≡ falls tag) ⌝ }
 {
-    shapes::flow_of(tag) < shapes::JUMP
+    flow < shapes::JUMP
 }
 
-// Control goes on to the next instruction after this tag, and nowhere else.
-pub fn plain(tag: u8) -> bool
-    ensures { λ r. ⌜ r ≡ plain tag ⌝ }
+// Control goes on to the next instruction after a tag of this flow, and nowhere else.
+pub fn plain(flow: u32) -> bool
+    ensures { λ r. ⌜ ((tag : ℕ) → Flow tag flow → r ≡ plain tag) ⌝ }
 {
-    shapes::flow_of(tag) < shapes::ITER_NEXT
+    flow < shapes::ITER_NEXT
 }
 
-// How many iterators a tag needs.
-pub fn iterators_needed(tag: u8) -> u32
-    ensures { λ r. ⌜ r ≡ iteratorsNeeded tag ⌝ }
+// How many iterators a tag of this flow needs.
+pub fn iterators_needed(flow: u32) -> u32
+    ensures { λ r. ⌜ ((tag : ℕ) → Flow tag flow → r ≡ iteratorsNeeded tag) ⌝ }
 {
-    let flow = shapes::flow_of(tag);
     if flow == shapes::ITER_DROP {
         return 1;
     }
     if flow == shapes::ITER_NEXT { 1 } else { 0 }
 }
 
-// How many handlers a tag needs.
-pub fn handlers_needed(tag: u8) -> u32
-    ensures { λ r. ⌜ r ≡ handlersNeeded tag ⌝ }
+// How many handlers a tag of this flow needs.
+pub fn handlers_needed(flow: u32) -> u32
+    ensures { λ r. ⌜ ((tag : ℕ) → Flow tag flow → r ≡ handlersNeeded tag) ⌝ }
 {
-    if shapes::flow_of(tag) == shapes::POP_HANDLER {
-        1
-    } else {
-        0
-    }
+    if flow == shapes::POP_HANDLER { 1 } else { 0 }
 }
 
 // The depths just after an instruction.
-pub fn after(tag: u8, effect: Effect, d: Depths) -> Depths
-    requires { ⌜ Held tag d ⌝ }
+pub fn after(flow: u32, effect: Effect, d: Depths) -> Depths
+    requires { ⌜ HeldBy flow d ⌝ }
     requires { ⌜ effect .pops ≤ d .operands ⌝ }
     requires { ⌜ d .operands - effect .pops + effect .pushes < 2 ^ 32 ⌝ }
-    ensures { λ r. ⌜ r ≡ afterOf tag (effect .pops) (effect .pushes) d ⌝ }
+    ensures { λ r. ⌜ ((tag : ℕ) → Flow tag flow → r ≡ afterOf tag (effect .pops) (effect .pushes) d) ⌝ }
 {
     let operands = d.operands - effect.pops + effect.pushes;
     let iterators = d.iterators;
     let handlers = d.handlers;
-    let flow = shapes::flow_of(tag);
     match flow {
         shapes::ITER_INIT => Depths {
             operands,
@@ -95,11 +91,10 @@ pub fn after(tag: u8, effect: Effect, d: Depths) -> Depths
 
 // The depths at each of an instruction's targets, from those before it and those after it. An iterator that has ended is
 // dropped, and its exit finds nothing pushed; a handler finds the operands from before it.
-pub fn jumped(tag: u8, before: Depths, after: Depths) -> Depths
-    requires { ⌜ Held tag before ⌝ }
-    ensures { λ r. ⌜ r ≡ jumpedOf tag before after ⌝ }
+pub fn jumped(flow: u32, before: Depths, after: Depths) -> Depths
+    requires { ⌜ HeldBy flow before ⌝ }
+    ensures { λ r. ⌜ ((tag : ℕ) → Flow tag flow → r ≡ jumpedOf tag before after) ⌝ }
 {
-    let flow = shapes::flow_of(tag);
     match flow {
         shapes::ITER_NEXT => Depths {
             operands: before.operands,
@@ -116,12 +111,12 @@ pub fn jumped(tag: u8, before: Depths, after: Depths) -> Depths
 }
 
 // How many targets the instruction at an offset names.
-pub fn target_count(code: &[u8], at: usize, switches: &[u32]) -> u64
+pub fn target_count(flow: u32, code: &[u8], at: usize, switches: &[u32]) -> u64
+    requires { ⌜ Flow (tagAt (now code) at) flow ⌝ }
     requires { ⌜ 0 < widthAt (now code) at ⌝ }
     requires { ⌜ SwitchEntry (now code) (now switches) at ⌝ }
-    ensures { λ r. ⌜ ((cases ranges : List ℕ) → r ≡ length (targetsOf (now (code .entry)) (now (switches .entry)) cases ranges at)) ⌝ }
+    ensures { λ r. ⌜ (r < 2 ^ 63) × ((cases ranges : List ℕ) → r ≡ length (targetsOf (now (code .entry)) (now (switches .entry)) cases ranges at)) ⌝ }
 {
-    let flow = shapes::flow_of(code[at]);
     if flow < shapes::ITER_NEXT {
         return 0;
     }
@@ -136,19 +131,13 @@ pub fn target_count(code: &[u8], at: usize, switches: &[u32]) -> u64
     0
 }
 
-// How many edges lead out of the instruction at an offset: one to each target, and one to the next instruction where control falls through.
-pub fn edge_count(code: &[u8], at: usize, switches: &[u32]) -> u64
-    requires { ⌜ 0 < widthAt (now code) at ⌝ }
-    requires { ⌜ SwitchEntry (now code) (now switches) at ⌝ }
-    ensures { λ r. ⌜ ((cases ranges : List ℕ)
-        → r ≡ length (targetsOf (now (code .entry)) (now (switches .entry)) cases ranges at) + cond (falls (tagAt (now (code .entry)) at)) 1 0) ⌝ }
+// How many edges lead out of an instruction with so many targets: one to each, and one to the next instruction where control
+// falls through.
+pub fn edge_count(flow: u32, targets: u64) -> u64
+    requires { ⌜ targets < 2 ^ 63 ⌝ }
+    ensures { λ r. ⌜ ((tag : ℕ) → Flow tag flow → r ≡ targets + cond (falls tag) 1 0) ⌝ }
 {
-    let targets = target_count(code, at, switches);
-    if falls(code[at]) {
-        targets + 1
-    } else {
-        targets
-    }
+    if falls(flow) { targets + 1 } else { targets }
 }
 
 // The arm of this number of a switch, counted from 0: cases, ranges, default.

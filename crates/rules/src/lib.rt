@@ -5,7 +5,7 @@ mod caps;
 pub mod edges;
 pub mod effects;
 pub mod rights;
-mod shapes;
+pub mod shapes;
 pub mod verdict;
 
 // How many operands, iterators and handlers there are at a place.

@@ -3,7 +3,10 @@
 // its count n; what it pushes; where n stands, as its offset from the tag and 8 more where it has two bytes, 0 where there
 // is none; and its flow, below. A CHAIN's operands k stand in its own table, and not here.
 ghost use mathlib.Core.Path.{_≡_};
+ghost use Prim.Native.Nat.{ℕ, _<_};
 ghost use lib.ListN.{getD};
+ghost use Rattle.code.specs.Layout.{tagAt};
+ghost use Rattle.code.specs.Width.{widthAt};
 ghost use Rattle.rules.specs.Packed.{shapes};
 ghost use Rattle.rules.specs.Shapes.{Shape, Flow};
 
@@ -70,9 +73,17 @@ pub fn shape_of(tag: u8) -> u32
     ((packed(tag / 3) >> place) % 0x100000) as u32
 }
 
-// A tag's flow.
-pub fn flow_of(tag: u8) -> u32
-    ensures { λ r. ⌜ Flow tag r ⌝ }
+// The word of the tag at an offset.
+pub fn word_at(code: &[u8], at: usize) -> u32
+    requires { ⌜ 0 < widthAt (now code) at ⌝ }
+    ensures { λ r. ⌜ Shape (tagAt (now (code .entry)) at) r ⌝ }
 {
-    shape_of(tag) / 0x10000
+    shape_of(code[at])
+}
+
+// The flow in a tag's word.
+pub fn flow_of(word: u32) -> u32
+    ensures { λ r. ⌜ ((tag : ℕ) → Shape tag word → Flow tag r) ⌝ }
+{
+    word / 0x10000
 }

@@ -7,6 +7,7 @@ ghost use mathlib.Core.Path.{_≡_};
 ghost use Prim.Native.Nat.{ℕ, _+_, _-_, _^_, _≤_, _<_};
 ghost use lib.Dec.{ltb, leb};
 ghost use lib.ListN.{length};
+ghost use Rattle.code.specs.Layout.{tagAt};
 ghost use Rattle.code.specs.Width.{widthAt};
 ghost use Rattle.listing.specs.Listing.{starts};
 ghost use Rattle.marks.specs.Marks.{Holds};
@@ -14,7 +15,8 @@ ghost use Rattle.rules.specs.declared.Depths.{Depths};
 ghost use Rattle.rules.specs.Edges.{targetsOf};
 ghost use Rattle.rules.specs.Rule.{judge};
 ghost use Rattle.rules.specs.Script.{Script};
-ghost use Rattle.rules.specs.There.{NameThere, ChainThere, SwitchThere, Held};
+ghost use Rattle.rules.specs.Shapes.{Shape, Flow};
+ghost use Rattle.rules.specs.There.{NameThere, ChainThere, SwitchThere, HeldBy};
 ghost use Rattle.rules.specs.Walk.{firstBad};
 ghost use Rattle.rules.specs.Answer.{told};
 ghost use Rattle.rules.specs.Script.{script};
@@ -39,9 +41,9 @@ pub enum Ruling {
     Gives(Edges),
 }
 
-// Kind 4, with only what lacks, then 12, 15 and 16: has an instruction of this tag the rights and the depths that it needs?
-fn check_needs(missing: u32, tag: u8, needs: u32, at: usize, d: Depths) -> Outcome
-    ensures { λ r. ⌜ told r ≡ needsTest missing tag needs at d ⌝ }
+// Kind 4, with only what lacks, then 12, 15 and 16: has an instruction of this flow the rights and the depths that it needs?
+fn check_needs(missing: u32, flow: u32, needs: u32, at: usize, d: Depths) -> Outcome
+    ensures { λ r. ⌜ ((tag : ℕ) → Flow tag flow → told r ≡ needsTest missing tag needs at d) ⌝ }
 {
     let have = d.operands;
     if 0 < missing {
@@ -57,10 +59,10 @@ fn check_needs(missing: u32, tag: u8, needs: u32, at: usize, d: Depths) -> Outco
             have,
         });
     }
-    if d.iterators < rules::edges::iterators_needed(tag) {
+    if d.iterators < rules::edges::iterators_needed(flow) {
         return Outcome::Refused(Answer::IteratorUnderflow(at as u64));
     }
-    if d.handlers < rules::edges::handlers_needed(tag) {
+    if d.handlers < rules::edges::handlers_needed(flow) {
         return Outcome::Refused(Answer::HandlerUnderflow(at as u64));
     }
     Outcome::Passed
@@ -68,18 +70,18 @@ fn check_needs(missing: u32, tag: u8, needs: u32, at: usize, d: Depths) -> Outco
 
 // 13 where nothing but the next place is left to go to and it is not before the end; else the edges. For an instruction that
 // has the depths it needs.
-fn leave(tag: u8, effect: Effect, next: u32, end: u32, d: Depths) -> Ruling
-    requires { ⌜ Held tag d ⌝ }
+fn leave(flow: u32, effect: Effect, next: u32, end: u32, d: Depths) -> Ruling
+    requires { ⌜ HeldBy flow d ⌝ }
     requires { ⌜ effect .pops ≤ d .operands ⌝ }
     requires { ⌜ d .operands - effect .pops + effect .pushes < 2 ^ 32 ⌝ }
-    ensures { λ r. ⌜ r ≡ leaving tag (effect .pops) (effect .pushes) next end d ⌝ }
+    ensures { λ r. ⌜ ((tag : ℕ) → Flow tag flow → r ≡ leaving tag (effect .pops) (effect .pushes) next end d) ⌝ }
 {
-    if rules::edges::plain(tag) && end <= next {
+    if rules::edges::plain(flow) && end <= next {
         return Ruling::Denies(Answer::FallsOffTheEnd);
     }
-    let after = rules::edges::after(tag, effect, d);
-    let jumped = rules::edges::jumped(tag, d, after);
-    let falls = rules::edges::falls(tag);
+    let after = rules::edges::after(flow, effect, d);
+    let jumped = rules::edges::jumped(flow, d, after);
+    let falls = rules::edges::falls(flow);
     Ruling::Gives(Edges {
         after,
         jumped,
@@ -88,8 +90,9 @@ fn leave(tag: u8, effect: Effect, next: u32, end: u32, d: Depths) -> Ruling
     })
 }
 
-// The rule of the instruction at an offset, in a chunk with this end.
+// The rule of the instruction at an offset, in a chunk with this end. The word is that of its tag.
 pub fn rule_of(
+    word: u32,
     rights: u32,
     names: &[u8],
     chains: &[u32],
@@ -99,6 +102,7 @@ pub fn rule_of(
     end: u32,
     d: Depths,
 ) -> Ruling
+    requires { ⌜ Shape (tagAt (now code) at) word ⌝ }
     requires { ⌜ 0 < widthAt (now code) at ⌝ }
     requires { ⌜ NameThere (now code) (now names) at ⌝ }
     requires { ⌜ ChainThere (now code) (now chains) (now steps) at ⌝ }
@@ -113,14 +117,14 @@ pub fn rule_of(
 {
     let needed = rules::rights::required_caps(code, at, names, chains, steps);
     let missing = rules::rights::lacking(needed, rights);
-    let effect = rules::effects::effect(code, at, chains);
-    let tag = code[at];
-    let able = check_needs(missing, tag, effect.needs, at, d);
+    let effect = rules::effects::effect(word, code, at, chains);
+    let flow = rules::shapes::flow_of(word);
+    let able = check_needs(missing, flow, effect.needs, at, d);
     if let Outcome::Refused(answer) = able {
         return Ruling::Denies(answer);
     }
-    let next = (at + code::width_of(tag)) as u32;
-    leave(tag, effect, next, end, d)
+    let next = (at + code::width_of(code[at])) as u32;
+    leave(flow, effect, next, end, d)
 }
 
 // Does a target lie outside of a chunk?
@@ -152,19 +156,21 @@ pub fn go(marks: &[u64], entry: u32, end: u32, at: usize, target: u32) -> Outcom
     Outcome::Passed
 }
 
-// Every jump of the instruction at an offset, in the order of its targets: the first that is refused.
+// Every jump of the instruction at an offset, which has so many targets, in their order: the first that is refused.
 pub fn check_jumps(
     code: &[u8],
     at: usize,
     switches: &[u32],
     cases: &[u32],
     ranges: &[u32],
+    count: usize,
     marks: &[u64],
     entry: u32,
     end: u32,
 ) -> Outcome
     requires { ⌜ 0 < widthAt (now code) at ⌝ }
     requires { ⌜ SwitchThere (now code) (now switches) (now cases) (now ranges) at ⌝ }
+    requires { ⌜ count ≡ length (targetsOf (now code) (now switches) (now cases) (now ranges) at) ⌝ }
     requires { ⌜ Holds (now marks) (starts (now code)) ⌝ }
     ensures { λ r. ⌜ ((rights : ℕ) (names chains steps : List ℕ) (declared : ℕ) (d : Depths)
         → told r ≡ firstBad
@@ -174,7 +180,6 @@ pub fn check_jumps(
         (map (λ (t : ℕ). record { place = t; depths = d })
         (targetsOf (now (code .entry)) (now (switches .entry)) (now (cases .entry)) (now (ranges .entry)) at))) ⌝ }
 {
-    let count = rules::edges::target_count(code, at, switches) as usize;
     let mut k = 0;
     while k < count {
         let target = rules::edges::jump_target(code, at, switches, cases, ranges, k);

@@ -65,24 +65,25 @@ fn note_at(records: &mut [u32], room: Room, slot: usize, place: u32, d: Depths)
     }
 }
 
-// Pushes an item for each target of the instruction at an offset, in order, and tells how many wait then.
+// Pushes an item for each target of the instruction at an offset, so many of them, in order, and tells how many wait then.
 fn push_jumps(
     code: &[u8],
     at: usize,
     switches: &[u32],
     cases: &[u32],
     ranges: &[u32],
+    count: usize,
     d: Depths,
     waiting: usize,
     work: &mut [u32],
 ) -> usize
     requires { ⌜ 0 < widthAt (now code) at ⌝ }
     requires { ⌜ SwitchThere (now code) (now switches) (now cases) (now ranges) at ⌝ }
+    requires { ⌜ count ≡ length (targetsOf (now code) (now switches) (now cases) (now ranges) at) ⌝ }
     requires { ⌜ (waiting + length (targetsOf (now code) (now switches) (now cases) (now ranges) at)) * 4 ≤ length (now work) ⌝ }
     ensures { λ r. ⌜ Pushed (targetsOf (now (code .entry)) (now (switches .entry)) (now (cases .entry)) (now (ranges .entry)) at)
         d waiting (now (work .entry)) r (now (work .exit)) ⌝ }
 {
-    let count = rules::edges::target_count(code, at, switches) as usize;
     let mut k = 0;
     while k < count {
         let target = rules::edges::jump_target(code, at, switches, cases, ranges, k);
@@ -186,13 +187,14 @@ fn enter_item(hand: Hand, post: u32, waiting: usize) -> Hand
     }
 }
 
-// The edges of an instruction whose tests have all passed: its depths are noted, its jumps pushed, and the next item is what
-// falls through, or else the one pushed last.
+// The edges of an instruction whose tests have all passed: its depths are noted, its jumps pushed, so many of them, and the
+// next item is what falls through, or else the one pushed last.
 fn leave(
     code: &[u8],
     switches: &[u32],
     cases: &[u32],
     ranges: &[u32],
+    count: usize,
     room: Room,
     hand: Hand,
     edges: Edges,
@@ -201,6 +203,7 @@ fn leave(
 ) -> Turn
     requires { ⌜ 0 < widthAt (now code) (hand .place) ⌝ }
     requires { ⌜ SwitchThere (now code) (now switches) (now cases) (now ranges) (hand .place) ⌝ }
+    requires { ⌜ count ≡ length (targetsOf (now code) (now switches) (now cases) (now ranges) (hand .place)) ⌝ }
     requires { ⌜ Leaves room hand (edges .next) (targetsOf (now code) (now switches) (now cases) (now ranges) (hand .place)) (now records) (now work) ⌝ }
     ensures { λ r. ⌜ Left room hand edges (targetsOf (now (code .entry)) (now (switches .entry)) (now (cases .entry)) (now (ranges .entry)) (hand .place))
         (now (records .entry)) (now (work .entry)) r (now (records .exit)) (now (work .exit)) ⌝ }
@@ -216,6 +219,7 @@ fn leave(
         switches,
         cases,
         ranges,
+        count,
         jumped,
         hand.waiting,
         work,
@@ -255,16 +259,31 @@ fn enter(
 {
     let at = hand.place as usize;
     let depths = hand.depths;
-    let ruling = ruling::rule_of(rights, names, chains, steps, code, at, room.end, depths);
+    // The tag is looked up once: the rule and the number of targets go by its word.
+    let word = rules::shapes::word_at(code, at);
+    let ruling = ruling::rule_of(
+        word,
+        rights,
+        names,
+        chains,
+        steps,
+        code,
+        at,
+        room.end,
+        depths,
+    );
     match ruling {
         Ruling::Denies(answer) => Turn::Refused(answer),
         Ruling::Gives(edges) => {
+            let flow = rules::shapes::flow_of(word);
+            let count = rules::edges::target_count(flow, code, at, switches) as usize;
             let good = ruling::check_jumps(
                 code,
                 at,
                 switches,
                 cases,
                 ranges,
+                count,
                 marks,
                 room.entry,
                 room.end,
@@ -277,6 +296,7 @@ fn enter(
                 switches,
                 cases,
                 ranges,
+                count,
                 room,
                 hand,
                 edges,

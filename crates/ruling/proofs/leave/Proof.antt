@@ -13,7 +13,7 @@ plain-requires : tie.Need-plain-requires
 plain-requires c κs = search needs
 
 returns : tie.Need-returns
-returns c = falls-off _ _ _ _ _ _ (c .before .before .plain .ensures) (c .before .if1 .taken) (leb-true _ _ (c .if2 .taken))
+returns c = λ tag f. falls-off _ _ _ _ _ _ (c .before .before .plain .ensures tag f) (c .before .if1 .taken) (leb-true _ _ (c .if2 .taken))
 
 after-requires : tie.Need-after-requires
 after-requires c κs = search needs
@@ -31,7 +31,8 @@ ways c = ⊎-elim (λ e. inr (leb-false _ _ (e .1 .left))) (λ e. inl (e .left))
 returns-2 : tie.Need-returns-2
 returns-2 c =
     let gone = c .before .before in
-    goes _ _ _ _ _ _ (gone .before .before .plain .ensures) (ways (gone .before)) (gone .after .ensures) (c .before .jumped .ensures) (c .falls .ensures)
+    λ tag f. goes _ _ _ _ _ _ (gone .before .before .plain .ensures tag f) (ways (gone .before)) (gone .after .ensures tag f) (c .before .jumped .ensures tag f)
+    (c .falls .ensures tag f)
 
 pub leave-spec : {M : Type 1} → statement M
 leave-spec =

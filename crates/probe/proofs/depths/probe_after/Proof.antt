@@ -41,11 +41,12 @@ Room s = fits (s .args .pops) (s .args .pushes) (s .args .operands) ≡ true
 room : (c : tie.Else2) → Room (c .before .before .before .before)
 room c = sym (c .before .has-operands .ensures) ∙ not-false _ (c .if2 .left)
 
-after-requires : tie.Need-after-requires
-after-requires c κs = (held _ _ (passed (c .before .before)), enough _ _ _ (room c))
+flow-of-requires : tie.Need-flow-of-requires
+flow-of-requires c κs = search needs
 
-cast-t13 : tie.Need-cast-t13
-cast-t13 c = search needs
+after-requires : tie.Need-after-requires
+after-requires c κs =
+    (record { tag = _; flows = c .flow-of .ensures; held = held _ _ (passed (c .before .before .before)) }, enough _ _ _ (room (c .before)))
 
 cast-t14 : tie.Need-cast-t14
 cast-t14 c = search needs
@@ -53,10 +54,13 @@ cast-t14 c = search needs
 cast-t15 : tie.Need-cast-t15
 cast-t15 c = search needs
 
+cast-t16 : tie.Need-cast-t16
+cast-t16 c = search needs
+
 returns-3 : tie.Need-returns-3
 returns-3 c =
-    let tested = c .before .before .before .before in
-    told (each _ _ (passed (tested .before .before)) (room tested)) (c .before .before .before .after .ensures)
+    let tested = c .before .before .before .before .before in
+    told (each _ _ (passed (tested .before .before)) (room tested)) (c .before .before .before .after .ensures _ (c .before .before .before .before .flow-of .ensures))
 
 pub probe-after-spec : {M : Type 1} → statement M
 probe-after-spec =
@@ -68,8 +72,9 @@ probe-after-spec =
     has-operands-requires
     nothing-requires-2
     returns-2
+    flow-of-requires
     after-requires
-    cast-t13
     cast-t14
     cast-t15
+    cast-t16
     returns-3)

@@ -21,11 +21,11 @@ returns c = untold (sym (c .before .before .has-depths .ensures) ∙ not-true _ 
 passed : (c : tie.Else1) → holds (c .before .before .args .tag) (c .before .before .args .iterators) (c .before .before .args .handlers) ≡ true
 passed c = sym (c .before .has-depths .ensures) ∙ not-false _ (c .if1 .left)
 
-jumped-requires : tie.Need-jumped-requires
-jumped-requires c κs = held _ _ (passed c)
+flow-of-requires : tie.Need-flow-of-requires
+flow-of-requires c κs = search needs
 
-cast-t13 : tie.Need-cast-t13
-cast-t13 c = search needs
+jumped-requires : tie.Need-jumped-requires
+jumped-requires c κs = record { tag = _; flows = c .flow-of .ensures; held = held _ _ (passed (c .before)) }
 
 cast-t14 : tie.Need-cast-t14
 cast-t14 c = search needs
@@ -33,8 +33,11 @@ cast-t14 c = search needs
 cast-t15 : tie.Need-cast-t15
 cast-t15 c = search needs
 
+cast-t16 : tie.Need-cast-t16
+cast-t16 c = search needs
+
 returns-2 : tie.Need-returns-2
-returns-2 c = told (passed (c .before .before .before .before)) (c .before .before .before .jumped .ensures)
+returns-2 c = told (passed (c .before .before .before .before .before)) (c .before .before .before .jumped .ensures _ (c .before .before .before .before .flow-of .ensures))
 
 pub probe-jumped-spec : {M : Type 1} → statement M
 probe-jumped-spec =
@@ -43,8 +46,9 @@ probe-jumped-spec =
     has-depths-requires
     nothing-requires
     returns
+    flow-of-requires
     jumped-requires
-    cast-t13
     cast-t14
     cast-t15
+    cast-t16
     returns-2)

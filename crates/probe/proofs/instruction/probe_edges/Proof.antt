@@ -25,11 +25,24 @@ There s =
 there : (c : tie.Else1) → There (c .before .before .before .before .before .before .before .before .before)
 there c = sym (c .before .is-there .ensures) ∙ not-false _ (c .if1 .left)
 
+word-at-requires : tie.Need-word-at-requires
+word-at-requires c κs = ready _ _ _ _ _ _ _ _ (there c) .wide
+
+flow-of-requires : tie.Need-flow-of-requires
+flow-of-requires c κs = search needs
+
+target-count-requires : tie.Need-target-count-requires
+target-count-requires c κs =
+    let r = ready _ _ _ _ _ _ _ _ (there (c .before .before)) in
+    (c .flow-of .ensures _ (c .before .word-at .ensures), (r .wide, r .switch-entry))
+
 edge-count-requires : tie.Need-edge-count-requires
-edge-count-requires c κs = let r = ready _ _ _ _ _ _ _ _ (there c) in (r .wide, r .switch-entry)
+edge-count-requires c κs = c .target-count .ensures .0
 
 returns-2 : tie.Need-returns-2
-returns-2 c = told-if _ _ (there (c .before)) (c .edge-count .ensures _ _)
+returns-2 c =
+    let counted = c .before .target-count .ensures .1 _ _ in
+    told-if _ _ (there (c .before .before .before .before)) (rw counted at (c .edge-count .ensures _ (c .before .before .flow-of .ensures _ (c .before .before .before .word-at .ensures))))
 
 pub probe-edges-spec : {M : Type 1} → statement M
-probe-edges-spec = tie.close (tie.spec is-there-requires returns edge-count-requires returns-2)
+probe-edges-spec = tie.close (tie.spec is-there-requires returns word-at-requires flow-of-requires target-count-requires edge-count-requires returns-2)

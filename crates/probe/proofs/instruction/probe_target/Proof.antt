@@ -26,24 +26,32 @@ There s =
 there : (c : tie.Else1) → There (c .before .before .before .before .before .before .before .before .before)
 there c = sym (c .before .is-there .ensures) ∙ not-false _ (c .if1 .left)
 
+word-at-requires : tie.Need-word-at-requires
+word-at-requires c κs = ready _ _ _ _ _ _ _ _ (there c) .wide
+
+flow-of-requires : tie.Need-flow-of-requires
+flow-of-requires c κs = search needs
+
 target-count-requires : tie.Need-target-count-requires
-target-count-requires c κs = let r = ready _ _ _ _ _ _ _ _ (there c) in (r .wide, r .switch-entry)
+target-count-requires c κs =
+    let r = ready _ _ _ _ _ _ _ _ (there (c .before .before)) in
+    (c .flow-of .ensures _ (c .before .word-at .ensures), (r .wide, r .switch-entry))
 
 returns-2 : tie.Need-returns-2
-returns-2 c = past-count _ _ _ _ (there (c .before .before)) (c .before .target-count .ensures _ _) (omega arith)
+returns-2 c = past-count _ _ _ _ (there (c .before .before .before .before)) (c .before .target-count .ensures .1 _ _) (omega arith)
 
 jump-target-requires : tie.Need-jump-target-requires
 jump-target-requires c κs =
-    let start = c .before .before .before .before .before .before .before .before .before .before .before in
-    let r = ready _ _ _ _ _ _ _ _ (there (c .before .before)) in
-    (r .wide, (r .switch-there, omega (arith, c .before .target-count .ensures (start .args .cases .now) (start .args .ranges .now))))
+    let start = c .before .before .before .before .before .before .before .before .before .before .before .before .before in
+    let r = ready _ _ _ _ _ _ _ _ (there (c .before .before .before .before)) in
+    (r .wide, (r .switch-there, omega (arith, c .before .target-count .ensures .1 (start .args .cases .now) (start .args .ranges .now))))
 
-cast-t13 : tie.Need-cast-t13
-cast-t13 c = search needs
+cast-t15 : tie.Need-cast-t15
+cast-t15 c = search needs
 
 returns-3 : tie.Need-returns-3
 returns-3 c =
-    below-count _ _ _ _ (there (c .before .before .before)) (c .before .before .target-count .ensures _ _) (c .before .if2 .left)
+    below-count _ _ _ _ (there (c .before .before .before .before .before)) (c .before .before .target-count .ensures .1 _ _) (c .before .if2 .left)
     (c .jump-target .ensures)
 
 pub probe-target-spec : {M : Type 1} → statement M
@@ -52,8 +60,10 @@ probe-target-spec =
     (tie.spec
     is-there-requires
     returns
+    word-at-requires
+    flow-of-requires
     target-count-requires
     returns-2
     jump-target-requires
-    cast-t13
+    cast-t15
     returns-3)

@@ -10,36 +10,33 @@ sub-operands c = search needs
 add-operands : tie.Need-add-operands
 add-operands c = search needs
 
-flow-of-requires : tie.Need-flow-of-requires
-flow-of-requires c κs = search needs
+add-t9 : tie.Need-add-t9
+add-t9 c = search needs
 
-add-t10 : tie.Need-add-t10
-add-t10 c = search needs
+sub-t10 : tie.Need-sub-t10
+sub-t10 c = let by = c .before .before .before .before .pre .0 in drop-held (by .flows) (by .held) (c .match .keys2)
 
-sub-t11 : tie.Need-sub-t11
-sub-t11 c = drop-held (c .before .flow-of .ensures) (c .before .before .before .before .before .pre .0) (c .match .keys2)
+add-t11 : tie.Need-add-t11
+add-t11 c = search needs
 
-add-t12 : tie.Need-add-t12
-add-t12 c = search needs
-
-sub-t13 : tie.Need-sub-t13
-sub-t13 c = handler-held (c .before .flow-of .ensures) (c .before .before .before .before .before .pre .0) (c .match .keys4)
+sub-t12 : tie.Need-sub-t12
+sub-t12 c = let by = c .before .before .before .before .pre .0 in handler-held (by .flows) (by .held) (c .match .keys4)
 
 returns : tie.Need-returns
-returns c = after-of (c .before .flow-of .ensures) _ _ _ 1 (c .match .keys1)
+returns c = λ tag f. after-of f _ _ _ 1 (c .match .keys1)
 
 returns-2 : tie.Need-returns-2
-returns-2 c = after-of (c .before .flow-of .ensures) _ _ _ 3 (c .match .keys2)
+returns-2 c = λ tag f. after-of f _ _ _ 3 (c .match .keys2)
 
 returns-3 : tie.Need-returns-3
-returns-3 c = after-of (c .before .flow-of .ensures) _ _ _ 5 (c .match .keys3)
+returns-3 c = λ tag f. after-of f _ _ _ 5 (c .match .keys3)
 
 returns-4 : tie.Need-returns-4
-returns-4 c = after-of (c .before .flow-of .ensures) _ _ _ 2 (c .match .keys4)
+returns-4 c = λ tag f. after-of f _ _ _ 2 (c .match .keys4)
 
 returns-5 : tie.Need-returns-5
 returns-5 c =
-    after-rest (c .before .flow-of .ensures) _ _ _
+    λ tag f. after-rest f _ _ _
     (c .match .rest .0 .0 .0 .1) (c .match .rest .0 .0 .1) (c .match .rest .0 .1) (c .match .rest .1)
 
 pub after-spec : {M : Type 1} → statement M
@@ -48,11 +45,10 @@ after-spec =
     (tie.spec
     sub-operands
     add-operands
-    flow-of-requires
-    add-t10
-    sub-t11
-    add-t12
-    sub-t13
+    add-t9
+    sub-t10
+    add-t11
+    sub-t12
     returns
     returns-2
     returns-3

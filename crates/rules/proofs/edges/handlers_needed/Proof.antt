@@ -4,14 +4,11 @@ use Rattle.rules.proofs.Flows.{handlers-of, no-handlers}
 use Rattle.rules.proofs.edges.handlers_needed.Statement.{statement}
 use Rattle.rules.proofs.edges.handlers_needed.Tie as tie
 
-flow-of-requires : tie.Need-flow-of-requires
-flow-of-requires c κs = search needs
-
 returns : tie.Need-returns
-returns c = handlers-of (c .before .flow-of .ensures) 2 (c .if1 .taken)
+returns c = λ tag f. handlers-of f 2 (c .if1 .taken)
 
 returns-2 : tie.Need-returns-2
-returns-2 c = no-handlers (c .before .flow-of .ensures) (c .if1 .left)
+returns-2 c = λ tag f. no-handlers f (c .if1 .left)
 
 pub handlers-needed-spec : {M : Type 1} → statement M
-handlers-needed-spec = tie.close (tie.spec flow-of-requires returns returns-2)
+handlers-needed-spec = tie.close (tie.spec returns returns-2)

@@ -4,17 +4,14 @@ use Rattle.rules.proofs.Flows.{iterators-of, no-iterators}
 use Rattle.rules.proofs.edges.iterators_needed.Statement.{statement}
 use Rattle.rules.proofs.edges.iterators_needed.Tie as tie
 
-flow-of-requires : tie.Need-flow-of-requires
-flow-of-requires c κs = search needs
-
 returns : tie.Need-returns
-returns c = iterators-of (c .before .flow-of .ensures) 3 (c .if1 .taken)
+returns c = λ tag f. iterators-of f 3 (c .if1 .taken)
 
 returns-2 : tie.Need-returns-2
-returns-2 c = iterators-of (c .before .before .flow-of .ensures) 4 (c .if2 .taken)
+returns-2 c = λ tag f. iterators-of f 4 (c .if2 .taken)
 
 returns-3 : tie.Need-returns-3
-returns-3 c = no-iterators (c .before .before .flow-of .ensures) (c .before .if1 .left) (c .if2 .left)
+returns-3 c = λ tag f. no-iterators f (c .before .if1 .left) (c .if2 .left)
 
 pub iterators-needed-spec : {M : Type 1} → statement M
-iterators-needed-spec = tie.close (tie.spec flow-of-requires returns returns-2 returns-3)
+iterators-needed-spec = tie.close (tie.spec returns returns-2 returns-3)

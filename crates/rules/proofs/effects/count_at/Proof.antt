@@ -8,34 +8,31 @@ use Rattle.rules.proofs.Operands.{tag-there}
 use Rattle.rules.proofs.effects.count_at.Statement.{statement}
 use Rattle.rules.proofs.effects.count_at.Tie as tie
 
-shared-slice-read-shape-of : tie.Need-shared-slice-read-shape-of
-shared-slice-read-shape-of c = tag-there _ _ (c .before .before .pre)
-
-shape-of-requires : tie.Need-shape-of-requires
-shape-of-requires c κs = search needs
-
 cast-place : tie.Need-cast-place
 cast-place c = search needs
 
-placed : (c : tie.After-shape-of)
-    → Placed (c .before .before .before .args .code .now) (c .before .before .before .args .at) (c .shape-of .result / 4096 % 16)
-placed c = record { wide = c .before .before .before .pre; told = c .shape-of .ensures .place }
+-- what the caller knows of the word
+abbrev start : tie.After-shared-slice-known → tie.Start
+start c = c .before
+
+placed : (c : tie.After-shared-slice-known) → Placed (start c .args .code .now) (start c .args .at) (start c .args .word / 4096 % 16)
+placed c = record { wide = start c .pre .1; told = start c .pre .0 .place }
 
 returns : tie.Need-returns
 returns c = count-none (placed (c .before)) (c .if1 .taken)
 
 add-result : tie.Need-add-result
 add-result c =
-    let start = c .before .before .before .before .before in
-    omega (arith, tag-there (start .args .code .now) (start .args .at) (start .pre))
+    let first = start (c .before .before) in
+    omega (arith, tag-there (first .args .code .now) (first .args .at) (first .pre .1))
 
 shared-slice-read-result : tie.Need-shared-slice-read-result
 shared-slice-read-result c = byte-there (placed (c .before .before .before)) (c .before .before .if1 .left) (c .before .if2 .taken)
 
 cast-result : tie.Need-cast-result
 cast-result c =
-    let known = c .before .before .before in
-    omega (arith, c .shared-slice-known3 .given (known .before .before .before .args .at + known .shape-of .result / 4096 % 16))
+    let first = start (c .before .before .before) in
+    omega (arith, c .shared-slice-known2 .given (first .args .at + first .args .word / 4096 % 16))
 
 returns-2 : tie.Need-returns-2
 returns-2 c = count-byte (placed (c .before .before .before)) (c .before .before .if1 .left) (c .before .if2 .taken)
@@ -54,8 +51,6 @@ pub count-at-spec : {M : Type 1} → statement M
 count-at-spec =
     tie.close
     (tie.spec
-    shared-slice-read-shape-of
-    shape-of-requires
     cast-place
     returns
     add-result

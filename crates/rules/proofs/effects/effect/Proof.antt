@@ -10,12 +10,12 @@ use Rattle.rules.proofs.Operands.{tag-there, chain-there}
 use Rattle.rules.proofs.effects.effect.Statement.{statement}
 use Rattle.rules.proofs.effects.effect.Tie as tie
 
-shared-slice-read-tag : tie.Need-shared-slice-read-tag
-shared-slice-read-tag c = tag-there _ _ (c .before .before .before .pre .0)
+shared-slice-read-if1 : tie.Need-shared-slice-read-if1
+shared-slice-read-if1 c = tag-there _ _ (c .before .before .before .pre .1 .0)
 
 -- a CHAIN's index is there
 named : (c : tie.Then1) → c .before .before .before .before .args .at + 3 ≤ length (c .before .before .before .before .args .code .now)
-named c = chain-there _ _ (c .before .before .before .before .pre .0) (c .if1 .taken)
+named c = chain-there _ _ (c .before .before .before .before .pre .1 .0) (c .if1 .taken)
 
 add-read-u16 : tie.Need-add-read-u16
 add-read-u16 c = omega (arith, named c)
@@ -38,7 +38,7 @@ mul-k-2 c = search needs
 shared-slice-read-k : tie.Need-shared-slice-read-k
 shared-slice-read-k c =
     let start = c .before .before .before .before .before .before in
-    omega (arith, c .before .read-u16 .ensures, start .pre .1 .entry (c .before .before .if1 .taken))
+    omega (arith, c .before .read-u16 .ensures, start .pre .1 .1 .entry (c .before .before .if1 .taken))
 
 returns : tie.Need-returns
 unfolding chainAt
@@ -47,36 +47,37 @@ returns c =
     chain-acts _ _ _ (c .before .before .if1 .taken) _
     (ap (λ (i : ℕ). getD (start .args .chains .now) (i * 7 + 2) 0) (c .before .read-u16 .ensures))
 
-shape-of-requires : tie.Need-shape-of-requires
-shape-of-requires c κs = search needs
-
 count-at-requires : tie.Need-count-at-requires
 count-at-requires c κs = search needs
 
 cast-n : tie.Need-cast-n
 cast-n c = search needs
 
-mul-t22 : tie.Need-mul-t22
-mul-t22 c = omega (arith, part-small (c .before .shape-of .result / 4) (c .count-at .result) (omega arith))
+-- past the count
+abbrev word : tie.After-count-at → ℕ
+word c = c .before .before .before .before .before .args .word
 
-add-t23 : tie.Need-add-t23
-add-t23 c = omega (arith, part-small (c .before .shape-of .result / 4) (c .count-at .result) (omega arith))
+mul-t21 : tie.Need-mul-t21
+mul-t21 c = omega (arith, part-small (word c / 4) (c .count-at .result) (omega arith))
 
-mul-t28 : tie.Need-mul-t28
-mul-t28 c = omega (arith, part-small (c .before .shape-of .result / 64) (c .count-at .result) (omega arith))
+add-t22 : tie.Need-add-t22
+add-t22 c = omega (arith, part-small (word c / 4) (c .count-at .result) (omega arith))
 
-add-t29 : tie.Need-add-t29
-add-t29 c = omega (arith, part-small (c .before .shape-of .result / 64) (c .count-at .result) (omega arith))
+mul-t27 : tie.Need-mul-t27
+mul-t27 c = omega (arith, part-small (word c / 64) (c .count-at .result) (omega arith))
+
+add-t28 : tie.Need-add-t28
+add-t28 c = omega (arith, part-small (word c / 64) (c .count-at .result) (omega arith))
 
 returns-2 : tie.Need-returns-2
 returns-2 c =
-    word-acts _ _ _ (c .before .before .if1 .left) _ (c .before .shape-of .ensures) _ (c .count-at .ensures)
+    word-acts _ _ _ (c .before .if1 .left) _ (c .before .before .before .before .before .pre .0) _ (c .count-at .ensures)
 
 pub effect-spec : {M : Type 1} → statement M
 effect-spec =
     tie.close
     (tie.spec
-    shared-slice-read-tag
+    shared-slice-read-if1
     add-read-u16
     read-u16-requires
     cast-i
@@ -85,11 +86,10 @@ effect-spec =
     mul-k-2
     shared-slice-read-k
     returns
-    shape-of-requires
     count-at-requires
     cast-n
-    mul-t22
-    add-t23
-    mul-t28
-    add-t29
+    mul-t21
+    add-t22
+    mul-t27
+    add-t28
     returns-2)

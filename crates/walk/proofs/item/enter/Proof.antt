@@ -3,7 +3,8 @@ use mathlib.Core.Path.{_≡_, sym, ap, _∙_, subst}
 use native.Mathlib.Omega.{arith}
 use borrow.Author.Needs.{needs}
 use denote.Ref.{now}
-use Rattle.rules.specs.Edges.{targets, next}
+use lib.ListN.{length}
+use Rattle.rules.specs.Edges.{targets, targetsOf, next}
 use Rattle.rules.specs.Script.{Script}
 use Rattle.ruling.specs.declared.Edges.{Edges}
 use Rattle.ruling.specs.declared.Ruling.the-variants.{Gives}
@@ -11,6 +12,7 @@ use Rattle.rules.specs.Script.{script}
 use Rattle.ruling.specs.Ruling.{edgesOf, ruled}
 use Rattle.walk.specs.declared.Hand.{Hand}
 use Rattle.rules.specs.Answer.{told}
+use Rattle.rules.proofs.Targets.{switch-entry-of}
 use Rattle.ruling.proofs.Laws.{denied, given-edges, given-rule}
 use Rattle.walk.specs.Units.{Leaves, spanOf}
 use Rattle.walk.proofs.Took.{stopped, left-took}
@@ -26,35 +28,38 @@ opening p = p .before .before .before .before .before .before .before .before .b
 module _ (p : tie.After-ruling2) where
   abbrev S : Script
   S =
-      script (opening (p .before .before .before) .args .rights) (now (opening (p .before .before .before) .args .names)) (now (opening (p .before .before .before) .args .chains))
-      (now (opening (p .before .before .before) .args .steps)) (now (opening (p .before .before .before) .args .switches)) (now (opening (p .before .before .before) .args .cases))
-      (now (opening (p .before .before .before) .args .ranges)) (now (opening (p .before .before .before) .args .code))
+      script (opening (p .before .before .before .before) .args .rights) (now (opening (p .before .before .before .before) .args .names)) (now (opening (p .before .before .before .before) .args .chains))
+      (now (opening (p .before .before .before .before) .args .steps)) (now (opening (p .before .before .before .before) .args .switches)) (now (opening (p .before .before .before .before) .args .cases))
+      (now (opening (p .before .before .before .before) .args .ranges)) (now (opening (p .before .before .before .before) .args .code))
 
   abbrev h : Hand
-  h = opening (p .before .before .before) .args .hand
+  h = opening (p .before .before .before .before) .args .hand
 
-  gives : ruled S (spanOf (opening (p .before .before .before) .args .room)) (h .place) (h .depths) ≡ Gives (p .ruling2 .given .0 .0)
+  gives : ruled S (spanOf (opening (p .before .before .before .before) .args .room)) (h .place) (h .depths) ≡ Gives (p .ruling2 .given .0 .0)
   gives = sym (p .before .before .rule-of .ensures _ _ _ _ _) ∙ p .ruling2 .given .1
 
   these : p .ruling2 .given .0 .0 ≡ edgesOf S (h .place) (h .depths)
   these = given-edges _ _ _ _ gives
 
-  leaving : Leaves (opening (p .before .before .before) .args .room) h (next S (h .place)) (targets S (h .place)) (now (opening (p .before .before .before) .args .records)) (now (opening (p .before .before .before) .args .work))
-  leaving = leaves _ _ _ _ _ _ (opening (p .before .before .before) .pre .0) (opening (p .before .before .before) .pre .1) (omega (arith, opening (p .before .before .before) .good .1 .1 .1 .1 .1 .1 .1 .1 .1 .1 .1 .1 .0))
+  leaving : Leaves (opening (p .before .before .before .before) .args .room) h (next S (h .place)) (targets S (h .place)) (now (opening (p .before .before .before .before) .args .records)) (now (opening (p .before .before .before .before) .args .work))
+  leaving = leaves _ _ _ _ _ _ (opening (p .before .before .before .before) .pre .0) (opening (p .before .before .before .before) .pre .1) (omega (arith, opening (p .before .before .before .before) .good .1 .1 .1 .1 .1 .1 .1 .1 .1 .1 .1 .1 .0))
 
-  room-left : Leaves (opening (p .before .before .before) .args .room) h (p .ruling2 .given .0 .0 .next) (targets S (h .place)) (now (opening (p .before .before .before) .args .records)) (now (opening (p .before .before .before) .args .work))
-  room-left = subst (λ (e : Edges). Leaves (opening (p .before .before .before) .args .room) h (e .next) (targets S (h .place)) (now (opening (p .before .before .before) .args .records)) (now (opening (p .before .before .before) .args .work))) (sym these) leaving
+  room-left : Leaves (opening (p .before .before .before .before) .args .room) h (p .ruling2 .given .0 .0 .next) (targets S (h .place)) (now (opening (p .before .before .before .before) .args .records)) (now (opening (p .before .before .before .before) .args .work))
+  room-left = subst (λ (e : Edges). Leaves (opening (p .before .before .before .before) .args .room) h (e .next) (targets S (h .place)) (now (opening (p .before .before .before .before) .args .records)) (now (opening (p .before .before .before .before) .args .work))) (sym these) leaving
 
 cast-at : tie.Need-cast-at
 cast-at c = search needs
 
+word-at-requires : tie.Need-word-at-requires
+word-at-requires c κs = wide _ _ _ _ _ _ (opening c .pre .0) (opening c .pre .1 .below-end)
+
 rule-of-requires : tie.Need-rule-of-requires
 rule-of-requires c κs =
-    let A = opening c .pre .0 in
-    let here = opening c .pre .1 .below-end in
+    let A = opening (c .before) .pre .0 in
+    let here = opening (c .before) .pre .1 .below-end in
     let s = start _ _ _ _ _ _ A here in
     let f = fitting _ _ _ _ _ _ A in
-    (wide _ _ _ _ _ _ A here, (A .ready .name-there _ s, (A .ready .chain-there _ s, (A .ready .listable .small, (f .operands, (f .iterators, f .handlers))))))
+    (c .word-at .ensures, (wide _ _ _ _ _ _ A here, (A .ready .name-there _ s, (A .ready .chain-there _ s, (A .ready .listable .small, (f .operands, (f .iterators, f .handlers)))))))
 
 enum-known-ruling : tie.Need-enum-known-ruling
 enum-known-ruling c = search needs
@@ -62,11 +67,31 @@ enum-known-ruling c = search needs
 enum-known-ruling-2 : tie.Need-enum-known-ruling-2
 enum-known-ruling-2 c = search needs
 
+flow-of-requires : tie.Need-flow-of-requires
+flow-of-requires c κs = search needs
+
+-- past the flow of the tag
+abbrev known : tie.After-flow-of → tie.Start
+known c = opening (c .before .before .before .before .before .before)
+
+target-count-requires : tie.Need-target-count-requires
+target-count-requires c κs =
+    let A = known c .pre .0 in
+    let here = known c .pre .1 .below-end in
+    let s = A .ready .listable .switch-there _ (start _ _ _ _ _ _ A here) in
+    (c .flow-of .ensures _ (c .before .before .before .before .before .word-at .ensures), (wide _ _ _ _ _ _ A here, switch-entry-of s))
+
+-- the targets are counted
+counted : (c : tie.After-target-count)
+    → c .target-count .result ≡ length (targetsOf (now (known (c .before) .args .code)) (now (known (c .before) .args .switches))
+    (now (known (c .before) .args .cases)) (now (known (c .before) .args .ranges)) (known (c .before) .args .hand .place))
+counted c = c .target-count .ensures .1 _ _
+
 check-jumps-requires : tie.Need-check-jumps-requires
 check-jumps-requires c κs =
-    let A = opening (c .before .before .before .before) .pre .0 in
-    let here = opening (c .before .before .before .before) .pre .1 .below-end in
-    (wide _ _ _ _ _ _ A here, (A .ready .listable .switch-there _ (start _ _ _ _ _ _ A here), A .marked))
+    let A = known (c .before) .pre .0 in
+    let here = known (c .before) .pre .1 .below-end in
+    (wide _ _ _ _ _ _ A here, (A .ready .listable .switch-there _ (start _ _ _ _ _ _ A here), (counted c, A .marked)))
 
 enum-known-good : tie.Need-enum-known-good
 enum-known-good c = search needs
@@ -74,9 +99,9 @@ enum-known-good c = search needs
 returns : tie.Need-returns
 unfolding told
 returns c =
-    let p = c .before .before .before .before .before .before .before .before in
+    let p = c .before .before .before .before .before .before .before .before .before .before .before in
     stopped _ _ (opening p .args .hand) _ _
-    (bad-turn _ _ _ _ _ _ (opening p .pre .0) (opening p .pre .1) (given-rule _ _ _ _ (gives (c .before .before .before .before .before)))
+    (bad-turn _ _ _ _ _ _ (opening p .pre .0) (opening p .pre .1) (given-rule _ _ _ _ (gives (c .before .before .before .before .before .before .before)))
     (sym (c .before .before .before .check-jumps .ensures _ _ _ _ _ _) ∙ ap told (c .before .good2 .given .1)))
 
 enum-told : tie.Need-enum-told
@@ -84,15 +109,15 @@ enum-told c = search needs
 
 leave-requires : tie.Need-leave-requires
 leave-requires c κs =
-    let p = c .before .before .before .before .before .before .before .before .before in
+    let p = c .before .before .before .before .before .before .before .before .before .before .before .before in
     let A = opening p .pre .0 in
     let U = opening p .pre .1 in
     let here = U .below-end in
-    (wide _ _ _ _ _ _ A here, (A .ready .listable .switch-there _ (start _ _ _ _ _ _ A here), room-left (c .before .before .before .before .before .before)))
+    (wide _ _ _ _ _ _ A here, (A .ready .listable .switch-there _ (start _ _ _ _ _ _ A here), (counted (c .before .before .before .before .before), room-left (c .before .before .before .before .before .before .before .before))))
 
 returns-2 : tie.Need-returns-2
 returns-2 c =
-    let p = c .before .before .before .before in
+    let p = c .before .before .before .before .before in
     stopped _ _ (opening p .args .hand) _ _ (denied-turn _ _ _ _ _ _ (opening p .pre .0) (opening p .pre .1) (denied _ _ _ _ (sym (c .before .before .before .rule-of .ensures _ _ _ _ _) ∙ c .before .ruling .given .1)))
 
 same-length : tie.Need-same-length
@@ -104,8 +129,8 @@ same-length-2 c = search needs
 returns-3 : tie.Need-returns-3
 unfolding told
 returns-3 c =
-    let p = c .before .before .before .before .before .before .before .before .before .before .before .before .before .before in
-    let q = c .before .before .before .before .before .before .before .before .before .before .before in
+    let p = c .before .before .before .before .before .before .before .before .before .before .before .before .before .before .before .before .before in
+    let q = c .before .before .before .before .before .before .before .before .before .before .before .before .before in
     left-took _ _ _ _ _ _ (opening p .pre .0) (opening p .pre .1) (given-rule _ _ _ _ (gives q))
     (sym (c .before .before .before .before .before .before .before .before .before .check-jumps .ensures _ _ _ _ _ _) ∙ ap told (c .before .before .before .before .before .before .before .enum-told .given .1)) (leaving q)
     (these q) (c .before .before .before .before .leave .ensures)
@@ -115,9 +140,12 @@ enter-spec =
     tie.close
     (tie.spec
     cast-at
+    word-at-requires
     rule-of-requires
     enum-known-ruling
     enum-known-ruling-2
+    flow-of-requires
+    target-count-requires
     check-jumps-requires
     enum-known-good
     returns

@@ -15,13 +15,15 @@ cast-push-jumps : tie.Need-cast-push-jumps
 cast-push-jumps c = search needs
 
 push-jumps-requires : tie.Need-push-jumps-requires
-push-jumps-requires c κs = search needs
+push-jumps-requires c κs =
+    let pre = c .before .before .before .before .before .before .before .before .before .before .before .before .before .before .pre in
+    (pre .0, (pre .1 .0, (pre .1 .1 .0, pre .1 .1 .1 .jumps-room)))
 
 enter-item-requires : tie.Need-enter-item-requires
 enter-item-requires c κs = search needs
 
 fall-to-requires : tie.Need-fall-to-requires
-fall-to-requires c κs = (keys-there _ _ (start (c .before .before) .args .edges) _ _ _ (start (c .before .before) .pre .1 .1) (c .before .before .before .before .before .before .before .before .before .before .note-at .ensures) (c .before .before .before .before .before .push-jumps .ensures) (c .before .before .enter-item .ensures), (still-rises _ _ (start (c .before .before) .args .edges) _ _ _ (start (c .before .before) .pre .1 .1) (c .before .before .before .before .before .before .before .before .before .before .note-at .ensures) (c .before .before .before .before .before .push-jumps .ensures) (c .before .before .enter-item .ensures), along _ _ (start (c .before .before) .args .edges) _ _ _ (start (c .before .before) .pre .1 .1) (c .before .before .before .before .before .before .before .before .before .before .note-at .ensures) (c .before .before .before .before .before .push-jumps .ensures) (c .before .before .enter-item .ensures)))
+fall-to-requires c κs = (keys-there _ _ (start (c .before .before) .args .edges) _ _ _ (start (c .before .before) .pre .1 .1 .1) (c .before .before .before .before .before .before .before .before .before .before .note-at .ensures) (c .before .before .before .before .before .push-jumps .ensures) (c .before .before .enter-item .ensures), (still-rises _ _ (start (c .before .before) .args .edges) _ _ _ (start (c .before .before) .pre .1 .1 .1) (c .before .before .before .before .before .before .before .before .before .before .note-at .ensures) (c .before .before .before .before .before .push-jumps .ensures) (c .before .before .enter-item .ensures), along _ _ (start (c .before .before) .args .edges) _ _ _ (start (c .before .before) .pre .1 .1 .1) (c .before .before .before .before .before .before .before .before .before .before .note-at .ensures) (c .before .before .before .before .before .push-jumps .ensures) (c .before .before .enter-item .ensures)))
 
 same-length : tie.Need-same-length
 same-length c = search needs
@@ -30,10 +32,10 @@ same-length-2 : tie.Need-same-length-2
 same-length-2 c = search needs
 
 returns : tie.Need-returns
-returns c = fell _ _ (start (c .before .before .before) .args .edges) _ _ _ (start (c .before .before .before) .pre .1 .1) (c .before .before .before .before .before .before .before .before .before .before .before .note-at .ensures) (c .before .before .before .before .before .before .push-jumps .ensures) (c .before .before .before .enter-item .ensures) (c .fall-to .ensures) (c .before .before .if1 .taken)
+returns c = fell _ _ (start (c .before .before .before) .args .edges) _ _ _ (start (c .before .before .before) .pre .1 .1 .1) (c .before .before .before .before .before .before .before .before .before .before .before .note-at .ensures) (c .before .before .before .before .before .before .push-jumps .ensures) (c .before .before .before .enter-item .ensures) (c .fall-to .ensures) (c .before .before .if1 .taken)
 
 take-back-requires : tie.Need-take-back-requires
-take-back-requires c κs = (keys-there _ _ (start (c .before .before .before) .args .edges) _ _ _ (start (c .before .before .before) .pre .1 .1) (c .before .before .before .before .before .before .before .before .before .before .before .note-at .ensures) (c .before .before .before .before .before .before .push-jumps .ensures) (c .before .before .before .enter-item .ensures), (still-rises _ _ (start (c .before .before .before) .args .edges) _ _ _ (start (c .before .before .before) .pre .1 .1) (c .before .before .before .before .before .before .before .before .before .before .before .note-at .ensures) (c .before .before .before .before .before .before .push-jumps .ensures) (c .before .before .before .enter-item .ensures), (waits-room _ _ (start (c .before .before .before) .args .edges) _ _ _ (start (c .before .before .before) .pre .1 .1) (c .before .before .before .before .before .before .before .before .before .before .before .note-at .ensures) (c .before .before .before .before .before .before .push-jumps .ensures) (c .before .before .before .enter-item .ensures), nothing-above _ _ (start (c .before .before .before) .args .edges) _ _ _ (start (c .before .before .before) .pre .1 .1) (c .before .before .before .before .before .before .before .before .before .before .before .note-at .ensures) (c .before .before .before .before .before .before .push-jumps .ensures) (c .before .before .before .enter-item .ensures))))
+take-back-requires c κs = (keys-there _ _ (start (c .before .before .before) .args .edges) _ _ _ (start (c .before .before .before) .pre .1 .1 .1) (c .before .before .before .before .before .before .before .before .before .before .before .note-at .ensures) (c .before .before .before .before .before .before .push-jumps .ensures) (c .before .before .before .enter-item .ensures), (still-rises _ _ (start (c .before .before .before) .args .edges) _ _ _ (start (c .before .before .before) .pre .1 .1 .1) (c .before .before .before .before .before .before .before .before .before .before .before .note-at .ensures) (c .before .before .before .before .before .before .push-jumps .ensures) (c .before .before .before .enter-item .ensures), (waits-room _ _ (start (c .before .before .before) .args .edges) _ _ _ (start (c .before .before .before) .pre .1 .1 .1) (c .before .before .before .before .before .before .before .before .before .before .before .note-at .ensures) (c .before .before .before .before .before .before .push-jumps .ensures) (c .before .before .before .enter-item .ensures), nothing-above _ _ (start (c .before .before .before) .args .edges) _ _ _ (start (c .before .before .before) .pre .1 .1 .1) (c .before .before .before .before .before .before .before .before .before .before .before .note-at .ensures) (c .before .before .before .before .before .before .push-jumps .ensures) (c .before .before .before .enter-item .ensures))))
 
 same-length-3 : tie.Need-same-length-3
 same-length-3 c = search needs
@@ -42,7 +44,7 @@ same-length-4 : tie.Need-same-length-4
 same-length-4 c = search needs
 
 returns-2 : tie.Need-returns-2
-returns-2 c = went-back _ _ (start (c .before .before .before .before .before .before) .args .edges) _ _ _ (start (c .before .before .before .before .before .before) .pre .1 .1) (c .before .before .before .before .before .before .before .before .before .before .before .before .before .before .note-at .ensures) (c .before .before .before .before .before .before .before .before .before .push-jumps .ensures) (c .before .before .before .before .before .before .enter-item .ensures) (c .before .before .take-back .ensures) (c .before .before .before .before .before .if1 .left)
+returns-2 c = went-back _ _ (start (c .before .before .before .before .before .before) .args .edges) _ _ _ (start (c .before .before .before .before .before .before) .pre .1 .1 .1) (c .before .before .before .before .before .before .before .before .before .before .before .before .before .before .note-at .ensures) (c .before .before .before .before .before .before .before .before .before .push-jumps .ensures) (c .before .before .before .before .before .before .enter-item .ensures) (c .before .before .take-back .ensures) (c .before .before .before .before .before .if1 .left)
 
 pub leave-spec : {M : Type 1} → statement M
 leave-spec =

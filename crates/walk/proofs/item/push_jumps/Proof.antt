@@ -7,43 +7,39 @@ use borrow.Author.Needs.{needs}
 use denote.Ref.{now}
 use lib.ListN.{length}
 use Rattle.rules.specs.Edges.{targetsOf}
-use Rattle.rules.proofs.Targets.{switch-entry-of}
 use Rattle.walk.proofs.Parts.{Pushing, none-pushed, one-pushed, all-pushed}
 use Rattle.walk.proofs.item.push_jumps.Statement.{statement}
 use Rattle.walk.proofs.item.push_jumps.Tie as tie
 
 abbrev Inv-loop : tie.InvT-loop
-Inv-loop code at switches cases ranges d waiting work₀ count k₀ work k = Pushing (targetsOf code switches cases ranges at) d waiting work₀ work k
+Inv-loop code at switches cases ranges count d waiting work₀ k₀ work k = Pushing (targetsOf code switches cases ranges at) d waiting work₀ work k
 
 abbrev μ-loop : tie.MeasureT-loop
-μ-loop code at switches cases ranges d waiting work₀ count k₀ work k = count - k
-
-target-count-requires : tie.Need-target-count-requires Inv-loop μ-loop
-target-count-requires c κs = let pre = c .before .before .before .before .before .pre in (pre .0, switch-entry-of (pre .1 .0))
+μ-loop code at switches cases ranges count d waiting work₀ k₀ work k = count - k
 
 loop-holds : tie.Need-loop-holds Inv-loop μ-loop
 loop-holds c = none-pushed _ _ _ _
 
--- the count is that of the targets
 abbrev start : tie.At-loop Inv-loop μ-loop → tie.Start Inv-loop μ-loop
-start p = p .before .before .before .before .before .before .before
+start p = p .before .before .before .before .before .before
 
 module _ (p : tie.At-loop Inv-loop μ-loop) where
   abbrev ts : List ℕ
   ts =
       targetsOf (now (start p .args .code)) (now (start p .args .switches)) (now (start p .args .cases)) (now (start p .args .ranges)) (start p .args .at)
 
-  counted : p .before .target-count .result ≡ length ts
-  counted = p .before .target-count .ensures (now (start p .args .cases)) (now (start p .args .ranges))
+  -- the caller has counted them
+  counted : start p .args .count ≡ length ts
+  counted = start p .pre .1 .1 .0
 
   enough : (start p .args .waiting + length ts) * 4 ≤ length (now (start p .args .work))
-  enough = start p .pre .1 .1
+  enough = start p .pre .1 .1 .1
 
 jump-target-requires : tie.Need-jump-target-requires Inv-loop μ-loop
 jump-target-requires c κs = let pre = start (c .before) .pre in (pre .0, (pre .1 .0, omega (arith, counted (c .before), c .loop-test .taken)))
 
 add-put : tie.Need-add-put Inv-loop μ-loop
-add-put c = let p = c .before .before .before in omega (arith, counted p, enough p, start p .good .1 .1 .1 .1 .1 .1 .1 .0, c .before .before .loop-test .taken)
+add-put c = let p = c .before .before .before in omega (arith, counted p, enough p, start p .good .1 .1 .1 .1 .1 .1 .1 .1 .0, c .before .before .loop-test .taken)
 
 put-requires : tie.Need-put-requires Inv-loop μ-loop
 put-requires c κs = let p = c .before .before .before in omega (arith, counted p, enough p, c .before .before .loop-test .taken, p .loop .inv .long)
@@ -60,7 +56,7 @@ loop-again c =
     one-pushed _ _ _ _ _ (p .loop .inv) (omega (arith, counted p, c .before .before .before .before .before .loop-test .taken)) (c .before .before .before .before .jump-target .ensures) (c .before .before .put .ensures)
 
 add-result : tie.Need-add-result Inv-loop μ-loop
-add-result c = let p = c .before in omega (arith, counted p, enough p, start p .good .1 .1 .1 .1 .1 .1 .1 .0)
+add-result c = let p = c .before in omega (arith, counted p, enough p, start p .good .1 .1 .1 .1 .1 .1 .1 .1 .0)
 
 same-length : tie.Need-same-length Inv-loop μ-loop
 same-length c = search needs
@@ -74,7 +70,6 @@ push-jumps-spec =
     (tie.spec
     Inv-loop
     μ-loop
-    target-count-requires
     loop-holds
     jump-target-requires
     add-put
