@@ -1,5 +1,5 @@
--- The laws of the tests, of the first pass and of each way out; what is established where all tests pass; that each input has
--- one outcome; and document 01's cases.
+-- The laws of the tests, of the first pass and of each way out; what is established where all tests pass; and that each input has
+-- one outcome.
 pub mod Tests
 pub mod Constants
 pub mod Pass
@@ -7,4 +7,3 @@ pub mod Held
 pub mod Order
 pub mod Established
 pub mod Once
-pub mod Bench

@@ -5,4 +5,3 @@ pub mod Unpacked
 pub mod InTurn
 pub mod Named
 pub mod Once
-pub mod Bench

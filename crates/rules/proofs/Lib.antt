@@ -22,7 +22,6 @@ pub mod Says
 pub mod Keeps
 pub mod Ties
 pub mod Demand
-pub mod Bench
 pub mod Tests
 pub mod ShapeWords
 pub mod Operands

@@ -13,7 +13,6 @@ pub mod Machine
 pub mod Walk
 pub mod Rule
 pub mod Chunk
-pub mod Bench
 pub mod Shapes
 pub mod There
 pub mod Acts

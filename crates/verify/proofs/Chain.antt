@@ -11,6 +11,7 @@ use Rattle.rules.specs.Chunk.{passes, fails, judgeChunk}
 use Rattle.rules.specs.Chunk as chunk
 use Rattle.rules.specs.Script.{Script, Span}
 use Rattle.verify.specs.declared.spans.Judgement.the-variants.{Passed, Refused}
+use Rattle.verify.specs.Accounts.{chunkAt}
 use Rattle.verify.specs.Judging.{spansOf, judgeAll, Judges, andThen}
 
 -- ---- spans
@@ -27,11 +28,8 @@ span-count (e ∷ entries) (n ∷ ends) (d ∷ declared) =
 abbrev pub spanAt : (entries ends declared : List ℕ) → ℕ → Span
 spanAt entries ends declared k = record { entry = getD entries k 0; end = getD ends k 0; declared = getD declared k 0 }
 
-nowhere : Span
-nowhere = record { entry = 0; end = 0; declared = 0 }
-
 span-there : (entries ends declared : List ℕ) (k : ℕ) → k < length (spansOf entries ends declared)
-    → getD (spansOf entries ends declared) k nowhere ≡ spanAt entries ends declared k
+    → chunkAt (spansOf entries ends declared) k ≡ spanAt entries ends declared k
 unfolding spansOf
 span-there [] ends declared k h = absurd (not-suc-le-zero h)
 span-there (e ∷ entries) [] declared k h = absurd (not-suc-le-zero h)
@@ -49,6 +47,10 @@ span-within entries ends declared k h =
       omega (arith, min-le-right (length entries) (min (length ends) (length declared)), min-le-right (length ends) (length declared)),
     )
 
+-- what is left from a chunk on
+pub chunk-next : (spans : List Span) (k : ℕ) → k < length spans → drop k spans ≡ chunkAt spans k ∷ drop (suc k) spans
+chunk-next spans k h = drop-cons spans k _ h
+
 module _ (S : Script) (records work : ℕ) where
   -- ---- one chunk
 
@@ -64,7 +66,7 @@ module _ (S : Script) (records work : ℕ) where
   unfolding judgeAll
   judge-fails span spans number reached taken heights e = rw (e, judgeAll)
 
-  judge-none : (number reached taken : ℕ) (heights : List ℕ) → judgeAll S records work [] number reached taken heights ≡ record { answer = Passed reached taken; heights = heights }
+  pub judge-none : (number reached taken : ℕ) (heights : List ℕ) → judgeAll S records work [] number reached taken heights ≡ record { answer = Passed reached taken; heights = heights }
   unfolding judgeAll
   judge-none number reached taken heights = refl
 
@@ -111,7 +113,7 @@ module _ (S : Script) (records work : ℕ) where
 
       module _ (h : at < length spans) where
         here : drop at spans ≡ spanAt entries ends declared at ∷ drop (suc at) spans
-        here = drop-cons spans at nowhere h ∙ ap (λ (s : Span). s ∷ drop (suc at) spans) (span-there entries ends declared at h)
+        here = chunk-next spans at h ∙ ap (λ (s : Span). s ∷ drop (suc at) spans) (span-there entries ends declared at h)
 
         pub judging-fails : {a : Answer} → judgeChunk S (spanAt entries ends declared at) records work ≡ fails a
             → {heights′ r′ w′ : List ℕ} → heights′ ≡ heights → r′ ≡ replicate records 0 → w′ ≡ replicate work 0

@@ -2,4 +2,7 @@
 pub mod Chain
 pub mod Walking
 pub mod Sorts
+pub mod Chunks
+pub mod Accounts
 pub mod Whole
+pub mod Demand

@@ -1,31 +1,38 @@
--- Which kinds the tests before the chunks give: those before any store 1 to 3, those after it none of these.
-use mathlib.Core.Bool.{Bool, true, false, cond}
+-- Which kinds the tests give: those before any store 1 to 3, those after it none of these and not 0; those of a chunk and of its walk
+-- not 0, and their verdicts name the chunk.
+use mathlib.Core.Bool.{Bool, true, false, not, _||_, cond}
 use mathlib.Core.List.{List, [], _∷_}
+use mathlib.Core.Logic.{_⊎_, inl, inr}
 use mathlib.Core.Option.{none, some}
-use mathlib.Core.Path.{_≡_, sym, subst}
-use Prim.Native.Nat.{ℕ, _≤_, _<_}
+use mathlib.Core.Path.{_≡_, refl, sym, subst}
+use Prim.Native.Nat.{ℕ, _+_, _*_, _≤_, _<_}
 use native.Mathlib.Omega.{arith}
 use lib.Dec.{ltb, leb, eqb}
 use lib.ListN.{length}
 use Rattle.before.specs.Before.{Test, first, limitsTest, tablesTest, roomTest, rightsTest, constantsTest, functionTest, widthTest, indicesTest, codeTest, earlyTests, lateTests}
 use Rattle.before.proofs.Pass.{code-on, code-stop}
+use Rattle.code.specs.Layout.{among}
 use Rattle.code.specs.Width.{widthOf}
 use Rattle.indices.specs.Indices as reference
 use Rattle.indices.specs.declared.Sizes as counted
+use Rattle.listing.specs.Listing.{starts}
 use Rattle.listing.proofs.Starts.{all-within}
 use Rattle.listing.proofs.WalkLaws.{from-end}
+use Rattle.opening.specs.Tests as own
 use Rattle.pools.specs.declared.limits.Sizes.{Sizes}
 use Rattle.pools.specs.Sizes.{firstExceeded}
 use Rattle.pools.specs.Tables.{firstBad}
+use Rattle.rules.specs.Refusals.{Real, lacks-rights, leaves, splits, disagrees, underflows, runs-off, no-iterator, no-handler, Exceeds}
 use Rattle.rules.specs.Rights.{lacking}
+use Rattle.rules.specs.Script.{Script, Span}
 use Rattle.rules.proofs.Lists.{zero≢one}
 use Rattle.rules.specs.Answer.{noChunk, numbered}
 use Rattle.rules.specs.declared.Answer.{Answer}
-use Rattle.rules.specs.declared.Answer.the-variants.{TooLarge, BadTable, NoRoom, MissingCaps, Undecodable, BadIndex}
+use Rattle.rules.specs.declared.Answer.the-variants.{TooLarge, BadTable, NoRoom, MissingCaps, Undecodable, BadIndex, ChunkOutOfRange, Misaligned}
 
 -- P holds of whatever a test answers
-record Gives (P : Answer → Type 0) (t : Test) : Type 0 where
-  gives : (a : Answer) → t ≡ some a → P a
+pub record Gives (P : Answer → Type 0) (t : Test) : Type 0 where
+  pub gives : (a : Answer) → t ≡ some a → P a
 
 none-gives : (P : Answer → Type 0) → Gives P none
 none-gives P = record { gives = λ a e. absurd (zero≢one (cc)) }
@@ -37,9 +44,9 @@ either : (P : Answer → Type 0) (x : Bool) {a : Answer} → P a → Gives P (co
 either P true p = none-gives P
 either P false p = some-gives P p
 
-other : (P : Answer → Type 0) (x : Bool) {a : Answer} → P a → Gives P (cond x (some a) none)
-other P true p = some-gives P p
-other P false p = none-gives P
+other : (P : Answer → Type 0) (x : Bool) {a : Answer} → P a → {t : Test} → Gives P t → Gives P (cond x (some a) t)
+other P true p g = some-gives P p
+other P false p g = g
 
 unless : (P : Answer → Type 0) (x : Bool) (t : Test) → Gives P t → Gives P (cond x none t)
 unless P true t g = none-gives P
@@ -58,19 +65,19 @@ nothing P = none-gives P
 -- ---- before any store
 
 abbrev Early : Answer → Type 0
-Early a = numbered noChunk a .kind ≤ 3
+Early a = (0 < numbered noChunk a .kind) × (numbered noChunk a .kind ≤ 3)
 
 limit-kind : (a : ℕ) → Early (TooLarge a)
 unfolding numbered
-limit-kind a = omega arith
+limit-kind a = (omega arith, omega arith)
 
 table-kind : (a b : ℕ) → Early (BadTable a b)
 unfolding numbered
-table-kind a b = omega arith
+table-kind a b = (omega arith, omega arith)
 
 room-kind : (a b : ℕ) → Early (NoRoom a b)
 unfolding numbered
-room-kind a b = omega arith
+room-kind a b = (omega arith, omega arith)
 
 module _ (sizes : Sizes) (chains steps switches cases ranges : List ℕ) (marks heights : ℕ) where
   limits : Gives Early (limitsTest sizes)
@@ -85,7 +92,7 @@ module _ (sizes : Sizes) (chains steps switches cases ranges : List ℕ) (marks 
 
   room : (needed lent buffer : ℕ) → Gives Early (roomTest needed lent buffer)
   unfolding roomTest
-  room needed lent buffer = other Early (ltb lent needed) (room-kind needed buffer)
+  room needed lent buffer = other Early (ltb lent needed) (room-kind needed buffer) (none-gives Early)
 
   pub early-kind : {a : Answer} → earlyTests sizes chains steps switches cases ranges marks heights ≡ some a → Early a
   unfolding earlyTests
@@ -141,3 +148,48 @@ module _ (sizes : counted.Sizes) (records : reference.Tables) (code : List ℕ) 
   unfolding lateTests
   late-kind rights functions constants e =
       (pair Late _ _ (constants-kind rights constants) (pair Late _ _ (code-kind 0) (pair Late _ _ (function-kind functions rights) (nothing Late)))) .gives _ e
+
+-- ---- of a chunk
+
+abbrev pub Refuses : Answer → Type 0
+Refuses a = (number : ℕ) → (0 < numbered number a .kind) × (numbered number a .chunk ≡ number)
+
+outside-kind : (a b : ℕ) → Refuses (ChunkOutOfRange a b)
+unfolding numbered
+outside-kind a b number = (omega arith, refl)
+
+misaligned-kind : (a : ℕ) → Refuses (Misaligned a)
+unfolding numbered
+misaligned-kind a number = (omega arith, refl)
+
+no-room-kind : (a b : ℕ) → Refuses (NoRoom a b)
+unfolding numbered
+no-room-kind a b number = (omega arith, refl)
+
+pub span-kind : (code : List ℕ) (entry end : ℕ) → Gives Refuses (own.spanTest code entry end)
+unfolding own.spanTest
+span-kind code entry end =
+    other Refuses (ltb end entry || ltb (length code) end) (outside-kind entry end)
+    (other Refuses (not (among entry (starts code) || eqb entry (length code))) (misaligned-kind entry) (none-gives Refuses))
+
+pub fits-kind : (targets edges records work : ℕ) → Gives Refuses (own.roomTest targets edges records work)
+unfolding own.roomTest
+fits-kind targets edges records work =
+    other Refuses (ltb records (4 * (1 + targets))) (no-room-kind (4 * (1 + targets)) 3)
+    (other Refuses (ltb work (4 * (1 + edges))) (no-room-kind (4 * (1 + edges)) 4) (none-gives Refuses))
+
+module _ (S : Script) (span : Span) where
+  pub real-kind : {a : Answer} → Real S span a ⊎ Exceeds S span a → Refuses a
+  unfolding numbered
+  real-kind (inl r) = real r
+    where
+      real : {a : Answer} → Real S span a → Refuses a
+      real (lacks-rights m l) = λ n. (omega arith, refl)
+      real (leaves m able t out) = λ n. (omega arith, refl)
+      real (splits m able t from to none-starts) = λ n. (omega arith, refl)
+      real (disagrees m k d) = λ n. (omega arith, refl)
+      real (underflows m r l) = λ n. (omega arith, refl)
+      real (runs-off p e) = λ n. (omega arith, refl)
+      real (no-iterator m r o l) = λ n. (omega arith, refl)
+      real (no-handler m r o l) = λ n. (omega arith, refl)
+  real-kind (inr x) = rw (x .answer) (λ n. (omega arith, refl))

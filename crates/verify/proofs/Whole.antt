@@ -36,7 +36,9 @@ use Rattle.rules.proofs.Lists.{zero≢one}
 use Rattle.verify.specs.Judging.{Judged, judgeAll, Judges}
 use Rattle.verify.specs.declared.spans.Judgement.{Judgement}
 use Rattle.verify.specs.declared.spans.Judgement.the-variants.{Passed as AllPass, Refused as Failed}
-use Rattle.verify.specs.Call.{Memory, BothClear, verdictOn, marksOn, Concludes, startBits, concluded, onward, outcome, Calls}
+use Rattle.verify.specs.Call.{Memory, BothClear, verdictOn, marksOn, Concludes, startBits, concluded, onward, outcome, result, Calls}
+use Rattle.verify.specs.Demand.{Begins}
+use Rattle.verify.proofs.Accounts.{accounted}
 use Rattle.verify.proofs.Chain.{judge-passes, judge-fails}
 use Rattle.verify.proofs.Sorts.{early-kind, late-kind}
 
@@ -159,6 +161,9 @@ module _ (I : Input) (spans : List Span) (before : Memory) where
     unfolding told
     refused-so = sym (k .answer) ∙ ap told e
 
+    not-accepted : {r : Verdict} → r ≡ numbered noChunk a → 0 < numbered noChunk a .kind → {P : Type 0} → r .kind ≡ 0 → P
+    not-accepted v high z = absurd (omega (arith, ap (λ (x : Verdict). x .kind) v))
+
     -- of kinds 1 to 3 nothing is stored
     pub untouched : numbered noChunk a .kind ≤ 3 → {r : Verdict} → r ≡ numbered noChunk a
         → Calls I spans before r (record { marks = marks′; heights = before .heights; records = before .records; work = before .work })
@@ -166,7 +171,7 @@ module _ (I : Input) (spans : List Span) (before : Memory) where
     untouched low {r} v = go (which refused-so)
       where
         go : (early ≡ some a) ⊎ ((early ≡ none) × (afterStores I ≡ some a)) → Calls I spans before r (record { marks = marks′; heights = before .heights; records = before .records; work = before .work })
-        go (inl q) = record { verdict = v ∙ rw q refl; memory = rw (k .marks, q) refl }
+        go (inl q) = record { verdict = v ∙ rw q refl; memory = rw (k .marks, q) refl; accepted = not-accepted v (early-kind _ _ _ _ _ _ _ _ q .0) }
         go (inr q) = absurd (omega (arith, late-kind _ _ _ _ _ _ (q .1)))
 
     -- of the others records and work are zeroed, and so are marks
@@ -177,8 +182,12 @@ module _ (I : Input) (spans : List Span) (before : Memory) where
     zeroed-all high {r} v {records′} {work′} c = go (which refused-so)
       where
         go : (early ≡ some a) ⊎ ((early ≡ none) × (afterStores I ≡ some a)) → Calls I spans before r (record { marks = marks′; heights = before .heights; records = records′; work = work′ })
-        go (inl q) = absurd (omega (arith, early-kind _ _ _ _ _ _ _ _ q))
-        go (inr q) = record { verdict = v ∙ rw (q .0, q .1) refl; memory = rw (k .marks, c .records-zero, c .work-zero, q .0, q .1) refl }
+        go (inl q) = absurd (omega (arith, early-kind _ _ _ _ _ _ _ _ q .1))
+        go (inr q) = record {
+          verdict = v ∙ rw (q .0, q .1) refl;
+          memory = rw (k .marks, c .records-zero, c .work-zero, q .0, q .1) refl;
+          accepted = not-accepted v (omega (arith, high));
+        }
 
   module _ {o : Outcome} {marks′ : List ℕ} (k : ForChunks I (length (before .heights)) (before .marks) o marks′) (e : o ≡ Passed) where
     pub passed-so : beforeChunks I (length (before .marks)) (length (before .heights)) ≡ none
@@ -195,6 +204,10 @@ module _ (I : Input) (spans : List Span) (before : Memory) where
     unfolding early
     both-passed = (known.early-passed I _ _ passed-so, known.late-passed I _ _ passed-so)
 
+    begins : Begins I before
+    unfolding early
+    begins = record { early = both-passed .0; late = both-passed .1 }
+
     bits : marks′ ≡ startBits I spans before
     unfolding marksFrom early
     bits = k .marks ∙ rw (both-passed .0, both-passed .1) refl
@@ -202,13 +215,17 @@ module _ (I : Input) (spans : List Span) (before : Memory) where
     pub judged-call : {words rooms : ℕ} → words ≡ length (before .records) → rooms ≡ length (before .work)
         → {judgement : Judgement} {heights′ records′ work′ : List ℕ}
         → Judges (bare (I .script)) words rooms spans 0 (before .heights) judgement heights′ records′ work′
-        → {r : Verdict} {marks″ : List ℕ} → Concludes judgement marks′ r marks″
+        → {r : Verdict} {marks″ : List ℕ} → Concludes judgement marks′ r marks″ → I .chunks ≡ length spans
         → Calls I spans before r (record { marks = marks″; heights = heights′; records = records′; work = work′ })
     unfolding outcome onward concluded early
-    judged-call same same-work {judgement} given {r} {marks″} c =
+    judged-call same same-work {judgement} {heights′} {records′} {work′} given {r} {marks″} c chunks =
         let j = rw (same, same-work) at given in
         let all = same-judged (I .script) (length (before .records)) (length (before .work)) spans 0 0 0 (before .heights) in
+        let v : r ≡ result I spans before .verdict = c .verdict ∙ rw (bits, j .answer, all, both-passed .0, both-passed .1) refl in
+        let m : record { marks = marks″; heights = heights′; records = records′; work = work′ } ≡ result I spans before .memory =
+        rw (c .bits, bits, j .answer, j .measured, j .records-zero, j .work-zero, all, both-passed .0, both-passed .1) refl in
         record {
-          verdict = c .verdict ∙ rw (bits, j .answer, all, both-passed .0, both-passed .1) refl;
-          memory = rw (c .bits, bits, j .answer, j .measured, j .records-zero, j .work-zero, all, both-passed .0, both-passed .1) refl;
+          verdict = v;
+          memory = m;
+          accepted = λ z. rw (v, ap (λ (x : Memory). x .heights) m) (accounted I spans before begins chunks (ap (λ (x : Verdict). x .kind) (sym v) ∙ z));
         }

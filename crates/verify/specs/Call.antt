@@ -17,6 +17,7 @@ use Rattle.rules.specs.declared.verdict.Verdict.{Verdict}
 use Rattle.rules.specs.Script.{Span}
 use Rattle.verify.specs.declared.spans.Judgement.{Judgement}
 use Rattle.verify.specs.declared.spans.Judgement.the-variants.{Passed, Refused}
+use Rattle.verify.specs.Accounts.{Accounted}
 use Rattle.verify.specs.Judging.{Judged, judgeAll}
 
 -- the lent memory
@@ -80,7 +81,8 @@ module _ (I : Input) (spans : List Span) (before : Memory) where
   abbrev pub result : Result
   result = outcome (beforeStores I (length (before .marks)) (length (before .heights)))
 
-  -- what a call comes to
+  -- what a call comes to; and an acceptance, kind 0, answers for every chunk
   pub record Calls (r : Verdict) (after : Memory) : Type 0 where
     pub verdict : r ≡ result .verdict
     pub memory : after ≡ result .memory
+    pub accepted : r .kind ≡ 0 → Accounted (I .script) spans (after .heights) r

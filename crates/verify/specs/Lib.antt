@@ -1,3 +1,5 @@
 -- The definitions that contracts and laws cite.
 pub mod Judging
+pub mod Accounts
 pub mod Call
+pub mod Demand

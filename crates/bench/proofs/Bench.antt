@@ -1,0 +1,44 @@
+-- One claim over the table of bench cases: the definition of the whole call gives each row's outcome. Both sides are computed,
+-- and one law turns the equation of the lists into the claim at each row.
+use mathlib.Core.List.{List, _∷_, map}
+use mathlib.Core.Path.{_≡_, refl}
+use lib.Count.{ones}
+use Rattle.before.specs.Before.{first, limitsTest, tablesTest, roomTest, rightsTest, constantsTest, functionTest, widthTest, indicesTest, codeTest, earlyTests, lateTests}
+use Rattle.before.specs.Memory.{marksOf}
+use Rattle.bench.specs.Bench.{word, Row, answered, expected, bench}
+use Rattle.code.specs.Layout.{among, layout, countFrom, indicesFrom}
+use Rattle.code.specs.Numbers.{little}
+use Rattle.code.specs.Width.{widthOf, toldBy}
+use Rattle.indices.specs.Indices as reference
+use Rattle.listing.specs.Listing.{startsBy, startsBefore}
+use Rattle.listing.specs.Walk.{walkFor}
+use Rattle.marks.specs.Marks.{marked, markedAll, total}
+use Rattle.pools.specs.Pools.{entries}
+use Rattle.pools.specs.Sizes.{maxCode, limits, firstExceeded}
+use Rattle.pools.specs.Tables as tables
+use Rattle.pools.specs.Told as told
+use Rattle.rules.specs.Answer.{numbered}
+use Rattle.rules.specs.Chunk.{measured, walked, judgeChunk}
+use Rattle.rules.specs.Depths.{agree}
+use Rattle.rules.specs.Edges.{falls, plain, armsOf, targetsOf, afterOf, jumpedOf, next, degree, T, E}
+use Rattle.rules.specs.Effects.{effect, operandsOf, needs, pops, pushes}
+use Rattle.rules.specs.Lists.{_∈_, here, there, sumOf}
+use Rattle.rules.specs.Machine.{fallTo}
+use Rattle.rules.specs.Paths.{iteratorsNeeded, handlersNeeded}
+use Rattle.rules.specs.Rights.{required, lacking, ofName, ofChain}
+use Rattle.rules.specs.Rule.{allTargets, rule, judge}
+use Rattle.rules.specs.Walk.{push, firstBad, seen, turn, run, lookup}
+use Rattle.verify.specs.Call.{Result, verdictOn, marksOn, concluded, onward, outcome}
+use Rattle.verify.specs.Judging.{judgeAll}
+
+computed : map answered bench ≡ map expected bench
+unfolding first limitsTest tablesTest roomTest rightsTest constantsTest functionTest widthTest indicesTest codeTest earlyTests lateTests marksOf word answered among layout countFrom indicesFrom little widthOf toldBy reference.firstBad reference.sizeOf reference.inCode reference.inRecord startsBy startsBefore walkFor marked markedAll total entries maxCode limits firstExceeded tables.ragged tables.wholeTable tables.firstBad told.first told.firstFrom numbered measured walked judgeChunk agree falls plain armsOf targetsOf afterOf jumpedOf next degree T E effect operandsOf needs pops pushes sumOf fallTo iteratorsNeeded handlersNeeded required lacking ofName ofChain allTargets rule judge push firstBad seen turn run lookup verdictOn marksOn concluded onward outcome judgeAll ones
+computed = refl
+
+-- lists that are equal under two functions have the same of both at each element
+same-at : {A B : Type 0} (f g : A → B) (l : List A) → map f l ≡ map g l → {x : A} → x ∈ l → f x ≡ g x
+same-at f g (y ∷ l) e (here q) = rw q (cc)
+same-at f g (y ∷ l) e (there m) = let rest : map f l ≡ map g l = cc in same-at f g l rest m
+
+pub answers : (row : Row) → row ∈ bench → answered row ≡ expected row
+answers row m = same-at answered expected bench computed m

@@ -1,0 +1,35 @@
+-- What an accepted call answers for, in terms of its chunks' paths. The customer's third demand, of each chunk: "depths can be
+-- written beside some of its instruction starts so that [...]", and "The height answered is then the largest such depth on any path
+-- from the entry, and some path attains it". Document 01, "What comes back": "On acceptance: the instructions in the code, [...];
+-- reached and taken, summed over the chunks", and "heights hold a measured height for each chunk [...] (all, if accepted)".
+-- Nothing here knows how a chunk is judged.
+use mathlib.Core.List.{List}
+use mathlib.Core.Path.{_≡_}
+use Prim.Native.Nat.{ℕ, zero, suc, _+_, _<_}
+use lib.ListN.{length, getD}
+use Rattle.listing.specs.Listing.{starts}
+use Rattle.rules.specs.declared.verdict.Verdict.{Verdict}
+use Rattle.rules.specs.Measures.{Measures}
+use Rattle.rules.specs.Script.{Script, Span}
+use Rattle.rules.specs.Writing.{Writing}
+
+-- the span of the chunk of a number; what it is where there is no such chunk is no matter
+abbrev pub chunkAt : List Span → ℕ → Span
+chunkAt spans i = getD spans i (record { entry = 0; end = 0; declared = 0 })
+
+-- the sum of f i over the numbers i below n
+unfoldable pub sumBelow : (f : ℕ → ℕ) (n : ℕ) → ℕ
+sumBelow f zero = 0
+sumBelow f (suc n) = sumBelow f n + f n
+
+pub record Accounted (S : Script) (spans : List Span) (heights : List ℕ) (r : Verdict) : Type 0 where
+  -- depths can be written beside the starts of each chunk
+  pub written : (i : ℕ) → i < length spans → Writing S (chunkAt spans i)
+  -- its height is the largest depth on its paths, and these are its counts
+  pub reached-in : ℕ → ℕ
+  pub taken-in : ℕ → ℕ
+  pub measured : (i : ℕ) → i < length spans → Measures S (chunkAt spans i) (getD heights i 0) (reached-in i) (taken-in i)
+  -- the counts of the call
+  pub instructions : r .instructions ≡ length (starts (S .code))
+  pub reached : r .reached ≡ sumBelow reached-in (length spans)
+  pub taken : r .taken ≡ sumBelow taken-in (length spans)

@@ -1,0 +1,55 @@
+-- When a call accepts, and when it refuses a chunk for its walk. Document 01, "Order of the tests": all that comes before the
+-- chunks, then of each chunk "7; 8 if the entry is neither a start nor the code's length; room for records, work; walk; 14". What
+-- the walk and 14 have to come to is the customer's third demand: Writing.
+use mathlib.Core.List.{List}
+use mathlib.Core.Logic.{_⊎_}
+use mathlib.Core.Option.{none}
+use mathlib.Core.Path.{_≡_}
+use Prim.Native.Nat.{ℕ, _+_, _*_, _≤_, _<_}
+use lib.ListN.{length}
+use Rattle.before.specs.Before.{beforeStores, afterStores}
+use Rattle.before.specs.Input.{Input}
+use Rattle.opening.specs.Ready.{InCode}
+use Rattle.rules.specs.Answer.{numbered}
+use Rattle.rules.specs.declared.Answer.{Answer}
+use Rattle.rules.specs.Edges.{T, E}
+use Rattle.rules.specs.Refusals.{Real, Exceeds}
+use Rattle.rules.specs.Script.{Script, Span}
+use Rattle.rules.specs.Writing.{Writing}
+use Rattle.verify.specs.Accounts.{chunkAt}
+use Rattle.verify.specs.Call.{Memory, result}
+
+-- a chunk passes its own tests before its walk, where so many words of records and of work are lent
+pub record Opens (S : Script) (span : Span) (records work : ℕ) : Type 0 where
+  -- 7 and 8
+  pub in-code : InCode (S .code) (span .entry) (span .end)
+  -- "records, 4 × (1 + T), and work, 4 × (1 + E)"
+  pub records-room : 4 * (1 + T S span) ≤ records
+  pub work-room : 4 * (1 + E S span) ≤ work
+
+-- all tests before the chunks pass
+pub record Begins (I : Input) (before : Memory) : Type 0 where
+  pub early : beforeStores I (length (before .marks)) (length (before .heights)) ≡ none
+  pub late : afterStores I ≡ none
+
+module _ (I : Input) (spans : List Span) (before : Memory) where
+  -- the chunk of a number opens
+  abbrev pub OpensAt : ℕ → Type 0
+  OpensAt i = Opens (I .script) (chunkAt spans i) (length (before .records)) (length (before .work))
+
+  -- and depths can be written beside its starts
+  pub record Good (i : ℕ) : Type 0 where
+    pub opens : OpensAt i
+    pub written : Writing (I .script) (chunkAt spans i)
+
+  -- a call that has to be accepted
+  pub record Acceptable : Type 0 where
+    pub begins : Begins I before
+    pub chunks : (i : ℕ) → i < length spans → Good i
+
+  -- a call that is refused for this chunk's walk, with its number: an instruction on its paths really fails that test, or the largest
+  -- depth on them is above the declared height
+  pub record RefusedAt (i : ℕ) : Type 0 where
+    pub answer : Answer
+    pub verdict : result I spans before .verdict ≡ numbered i answer
+    pub real : Real (I .script) (chunkAt spans i) answer ⊎ Exceeds (I .script) (chunkAt spans i) answer
