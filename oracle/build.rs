@@ -193,12 +193,13 @@ fn main() {
 }
 
 /// Where `rt staticlib` puts the proved libraries. The tests link them in any case; a program
-/// that can do without asks whether they are there.
+/// that can do without asks whether both are there.
 fn link() {
     let libraries = variable("CARGO_MANIFEST_DIR").join("../target/staticlib");
     println!("cargo:rustc-link-search=native={}", libraries.display());
     println!("cargo:rerun-if-changed={}", libraries.display());
-    if libraries.is_dir() {
+    let made = |name| libraries.join(name).is_file();
+    if made("libgrain.a") && made("libprobe.a") {
         println!("cargo:rustc-cfg=library");
     }
 }

@@ -8,7 +8,6 @@ use crate::generator::{self, Case, Room, Tally};
 use crate::input::{Input, Lent, Verdict, Verifier};
 use crate::oracle;
 use std::fmt;
-use std::ops::Range;
 
 /// Elements before and behind each buffer that nobody may touch.
 pub const GUARD: usize = 3;
@@ -215,7 +214,7 @@ impl fmt::Display for Finding {
 
 /// Runs over the mixed cases of these seeds, up to the first difference. The answers are
 /// counted, so that the caller can see that the run had something of everything.
-pub fn sweep(seeds: Range<u64>, subject: &Verifier) -> Result<Tally, Finding> {
+pub fn sweep(seeds: impl IntoIterator<Item = u64>, subject: &Verifier) -> Result<Tally, Finding> {
     let mut tally = Tally::default();
     for seed in seeds {
         let case = generator::case(seed);

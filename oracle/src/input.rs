@@ -3,7 +3,9 @@
 //! The tables are flat words, as document 01 lays them out. Nothing here is checked: any
 //! value of these types is an input that gets an answer.
 
-/// One chunk's span in the code, with the height that its script declares.
+/// One chunk's span in the code, with the height that its script declares, laid out as at the C
+/// boundary.
+#[repr(C)]
 #[derive(Clone, Copy, Debug, PartialEq, Eq)]
 pub struct Chunk {
     pub entry: u32,

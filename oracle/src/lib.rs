@@ -12,7 +12,7 @@
 //! - `original`: the code that the oracle stands for, compiled where its text is at hand.
 //!
 //! `library.rs` is no module of this crate, so that the crate can be built where the proved
-//! library is not: the programs that link the library take that file in by its path.
+//! libraries are not: the programs that link them take that file in by its path.
 
 pub mod bench;
 pub mod compare;

@@ -99,7 +99,7 @@ fn width_of_every_tag_at_every_cut() {
             for after in 0..9 {
                 let mut code = vec![0x01; before];
                 code.push(tag);
-                code.extend(std::iter::repeat(0xff).take(after));
+                code.extend(std::iter::repeat_n(0xff, after));
                 for at in offsets(code.len()) {
                     assert_eq!(
                         width(&code, at),

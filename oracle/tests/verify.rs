@@ -1,4 +1,5 @@
-//! The whole call, proved, against the oracle: the answer, and every element of all lent memory.
+//! The whole call, proved, against the oracle: the answer, and every element of all lent memory. It
+//! is asked as the product, over chunk records, and over flat spans.
 //!
 //! Each family of cases is a function over the verifier to ask. So the same families are tried
 //! on right verifiers, which have to pass them, and on wrong ones, which they have to catch.
@@ -16,15 +17,22 @@ use oracle::oracle as rules;
 use oracle::tables::tag;
 use oracle::tuned;
 use std::fmt::Display;
-use std::ops::Range;
 
 /// How many generated cases are compared where `VERIFY_CASES` doesn't say.
 const CASES: u64 = 1_000_000;
 
-/// The proved verifier. What it gets in three lists must stay as the chunks have it.
-fn proved(input: &mut Input, memory: &mut Memory) -> Verdict {
+/// Of how many generated cases one is asked over flat spans too.
+const FLAT: usize = 8;
+
+/// The product.
+fn product(input: &mut Input, memory: &mut Memory) -> Verdict {
+    library::verify(input, memory.lend())
+}
+
+/// The call over flat spans. What it gets in three lists must stay as the chunks have it.
+fn flat(input: &mut Input, memory: &mut Memory) -> Verdict {
     let spans = Spans::of(&input.chunks);
-    let verdict = library::verify(input, &spans, memory.lend());
+    let verdict = library::verify_flat(input, &spans, memory.lend());
     let unchanged = spans == Spans::of(&input.chunks);
     assert!(unchanged, "the library changed its spans");
     verdict
@@ -82,8 +90,16 @@ impl<'a> Run<'a> {
 }
 
 #[track_caller]
-fn passed(found: Found) -> Tally {
-    found.unwrap_or_else(|why| panic!("{why}"))
+fn passed(subject: &str, found: Found) -> Tally {
+    found.unwrap_or_else(|why| panic!("{subject}: {why}"))
+}
+
+/// Both calls pass a family, and meet the same answers in it.
+#[track_caller]
+fn both_pass(family: Family) -> Tally {
+    let tally = passed("product", family(&product));
+    assert_eq!(passed("flat", family(&flat)), tally);
+    tally
 }
 
 fn at_least(tally: &Tally, what: &str, counts: &[u64], least: u64) {
@@ -114,7 +130,7 @@ const FAMILIES: [(&str, Family); 9] = [
     ("large", large),
 ];
 
-fn generated(subject: &Open, seeds: Range<u64>) -> Found {
+fn generated(subject: &Open, seeds: impl Iterator<Item = u64>) -> Found {
     let mut run = Run::of(subject);
     for seed in seeds {
         let Case { input, room } = generator::case(seed);
@@ -419,13 +435,19 @@ fn oracle_of(count: fn([usize; 3]) -> usize) -> impl Fn(&Input, &Spans, Lent) ->
 // The proved verifier
 // ---------------------------------------------------------------------------------------------
 
-#[test]
-fn generated_cases_of_every_kind() {
+/// How many cases this run generates.
+fn asked_for() -> u64 {
     let cases = std::env::var("VERIFY_CASES").map_or(CASES, |text| {
         text.parse().expect("VERIFY_CASES is a number of cases")
     });
     assert!(cases >= 100_000, "too few cases for each kind to come");
-    let tally = passed(generated(&proved, 0..cases));
+    cases
+}
+
+#[test]
+fn generated_cases_of_every_kind() {
+    let cases = asked_for();
+    let tally = passed("product", generated(&product, 0..cases));
     println!("{tally}");
     at_least(&tally, "kind from 0", &tally.kinds, cases / 1_000);
     at_least(&tally, "buffer of kind 3", &tally.buffers, cases / 300);
@@ -443,20 +465,27 @@ fn generated_cases_of_every_kind() {
 }
 
 #[test]
+fn generated_cases_over_flat_spans() {
+    let seeds = (0..asked_for()).step_by(FLAT);
+    let tally = passed("flat", generated(&flat, seeds));
+    at_least(&tally, "kind from 0", &tally.kinds, tally.cases / 1_000);
+}
+
+#[test]
 fn bench_cases_in_all_rooms() {
-    passed(bench_cases(&proved));
+    both_pass(bench_cases);
 }
 
 #[test]
 fn rooms_full_short_and_roomy() {
-    let tally = passed(rooms(&proved));
+    let tally = both_pass(rooms);
     at_least(&tally, "buffer", &tally.buffers, 500);
     at_least(&tally, "kind 0", &tally.kinds[..1], 3_000);
 }
 
 #[test]
 fn every_span_of_short_codes() {
-    let tally = passed(spans(&proved));
+    let tally = both_pass(spans);
     for kind in [0, 7, 8, 12, 13] {
         at_least(&tally, "kind", &tally.kinds[kind..=kind], 50);
     }
@@ -464,7 +493,7 @@ fn every_span_of_short_codes() {
 
 #[test]
 fn chunks_repeated_overlapping_and_in_any_order() {
-    let tally = passed(lists(&proved));
+    let tally = both_pass(lists);
     at_least(&tally, "kind 0", &tally.kinds[..1], 5_000);
     let later = [tally.later_chunks];
     at_least(&tally, "refusal after a good chunk", &later, 1_000);
@@ -472,26 +501,26 @@ fn chunks_repeated_overlapping_and_in_any_order() {
 
 #[test]
 fn switches_from_no_case_to_60_000() {
-    let tally = passed(switches(&proved));
+    let tally = both_pass(switches);
     at_least(&tally, "kind 0", &tally.kinds[..1], 150);
     at_least(&tally, "kinds 9 and 10", &tally.kinds[9..=10], 20);
 }
 
 #[test]
 fn branches_as_many_as_fit() {
-    let tally = passed(branches(&proved));
+    let tally = both_pass(branches);
     assert_eq!(tally.kinds[0], tally.cases, "{tally}");
 }
 
 #[test]
 fn limits_and_large_numbers() {
-    let tally = passed(bounds(&proved));
+    let tally = both_pass(bounds);
     at_least(&tally, "limit", &tally.limits, 1);
 }
 
 #[test]
 fn large_programs_good_and_changed() {
-    let tally = passed(large(&proved));
+    let tally = both_pass(large);
     at_least(&tally, "kind 0", &tally.kinds[..1], 12);
     let refused = tally.kinds[1..].iter().filter(|&&count| count > 0).count();
     assert!(refused >= 6, "few sorts of refusals\n{tally}");
@@ -499,7 +528,7 @@ fn large_programs_good_and_changed() {
 
 #[test]
 fn the_shortest_list_of_spans_counts() {
-    let calls = unequal(&library::verify).unwrap_or_else(|why| panic!("{why}"));
+    let calls = unequal(&library::verify_flat).unwrap_or_else(|why| panic!("{why}"));
     assert_eq!(calls, 3_005);
 }
 

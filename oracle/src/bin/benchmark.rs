@@ -6,6 +6,7 @@
 
 #[cfg(library)]
 #[path = "../library.rs"]
+#[allow(dead_code)] // the call over flat spans is not timed
 mod library;
 
 use oracle::compare::Memory;
@@ -192,8 +193,6 @@ struct Prepared<'a> {
     #[cfg(original)]
     heights: Vec<u16>,
     memory: Memory,
-    #[cfg(library)]
-    spans: library::Spans,
     #[cfg(original)]
     translated: oracle::original::Translated<'a>,
 }
@@ -209,8 +208,6 @@ impl<'a> Prepared<'a> {
             #[cfg(original)]
             heights: memory.heights.lent().to_vec(),
             memory,
-            #[cfg(library)]
-            spans: library::Spans::of(&input.chunks),
             #[cfg(original)]
             translated: oracle::original::Translated::of(input),
         }
@@ -222,8 +219,7 @@ type Timed = fn(&mut Prepared);
 
 #[cfg(library)]
 const LIBRARY: Option<Timed> = Some(|script| {
-    let lent = script.memory.lend();
-    let verdict = library::verify(black_box(script.input), &script.spans, lent);
+    let verdict = library::verify(black_box(script.input), script.memory.lend());
     assert_eq!(verdict, script.verdict);
 });
 #[cfg(not(library))]
