@@ -5,4 +5,6 @@ pub mod Sorts
 pub mod Chunks
 pub mod Accounts
 pub mod Whole
+pub mod Small
+pub mod Between
 pub mod Demand

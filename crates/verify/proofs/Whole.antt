@@ -44,7 +44,7 @@ use Rattle.verify.proofs.Sorts.{early-kind, late-kind}
 
 -- ---- constants, tokens and op-assignments are no matter to a chunk
 
-abbrev bare : Script → Script
+abbrev pub bare : Script → Script
 bare S =
     script (S .rights) (S .pools .names) (S .pools .chains) (S .pools .steps) (S .pools .switches) (S .pools .cases) (S .pools .ranges) (S .code)
 
@@ -196,9 +196,6 @@ module _ (I : Input) (spans : List Span) (before : Memory) where
 
     pub marked-so : Marked marks′ (I .script .code)
     marked-so = rw (k .marks) (known.marks-hold I (length (before .heights)) (before .marks) passed-so)
-
-    pub counted-so : total marks′ ≡ length (starts (I .script .code))
-    counted-so = rw (k .marks) (known.marks-count I (length (before .heights)) (before .marks) passed-so)
 
     both-passed : (early ≡ none) × (afterStores I ≡ none)
     unfolding early

@@ -2,4 +2,5 @@
 pub mod Judging
 pub mod Accounts
 pub mod Call
+pub mod Stages
 pub mod Demand

@@ -2,50 +2,15 @@
 // Each answer and every word on return is fixed by what is passed in; `verify` takes any input.
 // Left to the caller: what a host does with a script that passes.
 ghost use Rattle.before.specs.Input.{input};
-ghost use Prim.Native.Nat.{_^_, _<_};
-ghost use Rattle.marks.specs.Marks.{total};
-ghost use Rattle.verify.specs.Call.{BothClear, Concludes, Calls};
+ghost use Rattle.verify.specs.Call.{Calls};
 ghost use Rattle.verify.specs.Judging.{spansOf};
 ghost use lib.ListN.{length};
 
 pub mod spans;
+pub mod stages;
 
-use rules::Answer;
-use rules::Outcome;
-use rules::verdict;
 use rules::verdict::Verdict;
-use spans::Judgement;
-
-// Zeroes all of records and work.
-fn clear_both(records: &mut [u32], work: &mut [u32])
-    ensures { λ r. ⌜ BothClear (now (records .entry)) (now (work .entry)) (now (records .exit)) (now (work .exit)) ⌝ }
-{
-    let used = records.len();
-    order::clear_first(records, used);
-    let waited = work.len();
-    order::clear_first(work, waited);
-}
-
-// After the chunks: the verdict, and marks cleared after a refusal.
-fn conclude(judgement: Judgement, marks: &mut [u64]) -> Verdict
-    requires { ⌜ total (now marks) < 2 ^ 64 ⌝ }
-    ensures { λ r. ⌜ Concludes judgement (now (marks .entry)) r (now (marks .exit)) ⌝ }
-{
-    match judgement {
-        Judgement::Passed { reached, taken } => {
-            let answer = Answer::Accepted {
-                instructions: marks::count(marks),
-                reached,
-                taken,
-            };
-            verdict::verdict_of(answer, verdict::NO_CHUNK)
-        }
-        Judgement::Refused { chunk, answer } => {
-            marks::clear(marks);
-            verdict::verdict_of(answer, chunk)
-        }
-    }
-}
+use stages::State;
 
 // The whole call over flat spans, of any input. There are as many chunks as the shortest of the three lists of spans has.
 pub fn verify(
@@ -79,7 +44,7 @@ pub fn verify(
 {
     let chunks = spans::least(entries.len(), ends.len(), declared.len());
     let room = heights.len();
-    let outcome = before::before_chunks(
+    let state = stages::begin(
         rights,
         functions,
         constants,
@@ -93,18 +58,14 @@ pub fn verify(
         ranges,
         code,
         chunks,
-        marks,
         room,
+        marks,
+        records,
+        work,
     );
-    if let Outcome::Refused(answer) = outcome {
-        let refusal = verdict::verdict_of(answer, verdict::NO_CHUNK);
-        // Kinds 1 to 3 come before any store.
-        if refusal.kind > 3 {
-            clear_both(records, work);
-        }
-        return refusal;
+    if let State::Ended(verdict) = state {
+        return verdict;
     }
-    clear_both(records, work);
     let judgement = spans::judge_spans(
         rights,
         names,
@@ -123,5 +84,5 @@ pub fn verify(
         records,
         work,
     );
-    conclude(judgement, marks)
+    stages::finish(stages::advance(state, judgement, marks))
 }

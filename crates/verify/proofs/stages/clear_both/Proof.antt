@@ -1,9 +1,9 @@
--- `verify::clear_both` meets its contract: as many words as there are.
+-- `verify::stages::clear_both` meets its contract: as many words as there are.
 use borrow.Author.Needs.{needs}
 use denote.Ref.{now}
 use Rattle.verify.proofs.Walking.{all-cleared}
-use Rattle.verify.proofs.clear_both.Statement.{statement}
-use Rattle.verify.proofs.clear_both.Tie as tie
+use Rattle.verify.proofs.stages.clear_both.Statement.{statement}
+use Rattle.verify.proofs.stages.clear_both.Tie as tie
 
 clear-first-requires : tie.Need-clear-first-requires
 clear-first-requires c κs = search needs

@@ -1,0 +1,3 @@
+-- The laws and steps that the walk cites.
+pub mod Rules
+pub mod Spans

@@ -1,0 +1,103 @@
+-- The whole call in stages. Document 01, "Order of the tests": what stands before the chunks there, then "chunks upward. The first
+-- refusal met ends the whole call"; "What comes back": "Kinds 1, 2, and 3 for marks or heights come before any store. Every later
+-- return zeroes all of records and work", and "reached and taken, summed over the chunks".
+use mathlib.Core.Bool.{Bool, false, cond}
+use mathlib.Core.List.{List, [], _∷_}
+use mathlib.Core.Option.{none, some}
+use mathlib.Core.Path.{_≡_}
+use Prim.Native.Nat.{ℕ, _+_, _*_, _^_, _≤_, _<_}
+use lib.Dec.{leb, ltb}
+use lib.ListN.{length, replicate}
+use Rattle.before.specs.Before.{Test, beforeChunks}
+use Rattle.before.specs.Input.{Input}
+use Rattle.before.specs.Memory.{marksAfter}
+use Rattle.marks.specs.Marks.{total}
+use Rattle.opening.specs.Ready.{Ready, Marked}
+use Rattle.rules.specs.Answer.{noChunk, numbered}
+use Rattle.rules.specs.declared.Answer.the-variants.{Accepted}
+use Rattle.rules.specs.declared.verdict.Verdict.{Verdict}
+use Rattle.rules.specs.Script.{Script, Span}
+use Rattle.verify.specs.declared.spans.Judgement.{Judgement}
+use Rattle.verify.specs.declared.spans.Judgement.the-variants.{Passed, Refused}
+use Rattle.verify.specs.declared.stages.State.{State}
+use Rattle.verify.specs.declared.stages.State.the-variants.{Going, Ended}
+use Rattle.verify.specs.Call.{marksOn}
+use Rattle.verify.specs.Judging.{Judged, judgeAll}
+
+-- ---- before the chunks
+
+-- the state after these tests, with so many instructions marked
+unfoldable pub opened : Test → (instructions : ℕ) → State
+opened none instructions = Going instructions 0 0
+opened (some a) instructions = Ended (numbered noChunk a)
+
+-- what records or work hold then
+unfoldable pub wordsOn : Test → List ℕ → List ℕ
+wordsOn none words = replicate (length words) 0
+wordsOn (some a) words = cond (leb (numbered noChunk a .kind) 3) words (replicate (length words) 0)
+
+-- what a call for everything before the chunks comes to, with room for so many heights
+pub record Begins (I : Input) (heights : ℕ) (marks records work : List ℕ) (r : State) (marks′ records′ work′ : List ℕ) : Type 0 where
+  pub state : r ≡ opened (beforeChunks I (length marks) heights) (total marks′)
+  pub bits : marks′ ≡ marksAfter I heights marks
+  pub records-on : records′ ≡ wordsOn (beforeChunks I (length marks) heights) records
+  pub work-on : work′ ≡ wordsOn (beforeChunks I (length marks) heights) work
+
+-- ---- the chunks
+
+-- the state after more chunks are judged, and what marks hold then
+unfoldable pub advanced : State → Judgement → State
+advanced (Going instructions reached taken) (Passed more further) = Going instructions (reached + more) (taken + further)
+advanced (Going instructions reached taken) (Refused chunk a) = Ended (numbered chunk a)
+advanced (Ended verdict) judgement = Ended verdict
+
+unfoldable pub marksThen : State → Judgement → (marks : List ℕ) → List ℕ
+marksThen (Going instructions reached taken) judgement marks = marksOn judgement marks
+marksThen (Ended verdict) judgement marks = marks
+
+pub record Advances (state : State) (judgement : Judgement) (marks : List ℕ) (r : State) (marks′ : List ℕ) : Type 0 where
+  pub next : r ≡ advanced state judgement
+  pub bits : marks′ ≡ marksThen state judgement marks
+
+-- the sums fit a `u64`
+unfoldable pub Fits : State → Judgement → Type 0
+Fits (Going instructions reached taken) (Passed more further) = (reached + more < 2 ^ 64) × (taken + further < 2 ^ 64)
+Fits (Going instructions reached taken) (Refused chunk a) = Unit {0}
+Fits (Ended verdict) judgement = Unit {0}
+
+-- the counts are those of so many chunks at most
+unfoldable pub Few : State → (chunks : ℕ) → Type 0
+Few (Going instructions reached taken) chunks = (reached ≤ chunks * 2 ^ 17) × (taken ≤ chunks * 2 ^ 40)
+Few (Ended verdict) chunks = Unit {0}
+
+-- what a call for one chunk builds on
+pub record Asks (S : Script) (number : ℕ) (state : State) (marks heights records work : List ℕ) : Type 0 where
+  pub ready : Ready S
+  pub marked : Marked marks (S .code)
+  pub records-zero : records ≡ replicate (length records) 0
+  pub work-zero : work ≡ replicate (length work) 0
+  pub room : number < length heights
+  pub low : number ≤ 1024
+  pub few : Few state number
+
+-- and what it comes to, where so many words of records and of work are lent
+module _ (S : Script) (records work : ℕ) (span : Span) (number : ℕ) (state : State) (marks heights : List ℕ) where
+  abbrev pub judged : Judged
+  judged = judgeAll S records work (span ∷ []) number 0 0 heights
+
+  pub record Takes (r : State) (marks′ heights′ records′ work′ : List ℕ) : Type 0 where
+    pub advances : Advances state (judged .answer) marks r marks′
+    pub measured : heights′ ≡ judged .heights
+    pub records-zero : records′ ≡ replicate records 0
+    pub work-zero : work′ ≡ replicate work 0
+
+-- ---- the end
+
+-- whether there is another chunk to judge
+unfoldable pub goesOn : State → (number chunks : ℕ) → Bool
+goesOn (Going instructions reached taken) number chunks = ltb number chunks
+goesOn (Ended verdict) number chunks = false
+
+unfoldable pub finished : State → Verdict
+finished (Going instructions reached taken) = numbered noChunk (Accepted instructions reached taken)
+finished (Ended verdict) = verdict
