@@ -26,7 +26,7 @@ use Rattle.rules.specs.declared.verdict.Verdict.{Verdict}
 use Rattle.rules.specs.Script.{Script, Span}
 use Rattle.verify.specs.Accounts.{chunkAt, sumBelow, Accounted}
 use Rattle.verify.specs.Call.{Memory, verdictOn, startBits, concluded, onward, outcome, result}
-use Rattle.verify.specs.Demand.{Begins}
+use Rattle.verify.specs.Demand.{ComesToChunks}
 use Rattle.verify.specs.Judging.{Judged, judgeAll}
 use Rattle.verify.specs.declared.spans.Judgement.the-variants.{Passed, Refused}
 use Rattle.verify.proofs.Chain.{chunk-next, judge-none, judge-passes, judge-fails}
@@ -165,7 +165,7 @@ module _ (I : Input) (spans : List Span) (before : Memory) where
   abbrev judged : Judged
   judged = judgeAll (I .script) records work spans 0 0 0 (before .heights)
 
-  module _ (b : Begins I before) where
+  module _ (b : ComesToChunks I before) where
     begun : beforeChunks I (length (before .marks)) (length (before .heights)) ≡ none
     unfolding beforeChunks first
     begun = rw (b .early, b .late) refl

@@ -18,7 +18,7 @@ use Rattle.rules.specs.Writing.{Writing}
 use Rattle.rules.proofs.Lists.{zero≢one}
 use Rattle.verify.specs.Accounts.{chunkAt}
 use Rattle.verify.specs.Call.{Memory, onward, outcome, result, Calls}
-use Rattle.verify.specs.Demand.{Begins, OpensAt, Good, Acceptable, RefusedAt}
+use Rattle.verify.specs.Demand.{ComesToChunks, OpensAt, Good, Acceptable, RefusedAt}
 use Rattle.verify.proofs.Accounts.{judgedAt, passes-at, Ways, all-pass, one-fails, ways, known, PassesIn, refuses, accepts-kind, all-passed}
 use Rattle.verify.proofs.Chunks.{passes-opens, passes-written, written-passes, fails-really, fails-refuses}
 use Rattle.verify.proofs.Sorts.{early-kind, late-kind, real-kind}
@@ -31,23 +31,23 @@ module _ (I : Input) (spans : List Span) (before : Memory) where
   work = length (before .work)
 
   -- a refusal before the chunks is of no kind 0
-  begins : result I spans before .verdict .kind ≡ 0 → Begins I before
+  begins : result I spans before .verdict .kind ≡ 0 → ComesToChunks I before
   unfolding outcome onward
   begins z = go (beforeStores I (length (before .marks)) (length (before .heights))) refl (afterStores I) refl
     where
-      go : (x : Test) → beforeStores I (length (before .marks)) (length (before .heights)) ≡ x → (y : Test) → afterStores I ≡ y → Begins I before
+      go : (x : Test) → beforeStores I (length (before .marks)) (length (before .heights)) ≡ x → (y : Test) → afterStores I ≡ y → ComesToChunks I before
       go none p none q = record { early = p; late = q }
       go none p (some a) q = absurd (omega (arith, rw (p, q) at z, late-kind _ _ _ _ _ _ q))
       go (some a) p y q = absurd (omega (arith, rw p at z, early-kind _ _ _ _ _ _ _ _ p .0))
 
   -- after it a chunk passes exactly if it opens and can be written
-  module _ (b : Begins I before) (i : ℕ) where
+  module _ (b : ComesToChunks I before) (i : ℕ) where
     good-passes : Good I spans before i → PassesIn I spans before i
     good-passes g = passes-at (I .script) records work spans i (written-passes I (known I spans before b) (chunkAt spans i) records work (g .opens) (g .written) .so)
 
     passes-good : PassesIn I spans before i → Good I spans before i
     passes-good e = record {
-      opens = passes-opens I (known I spans before b) (chunkAt spans i) records work e;
+      opens = passes-opens (I .script) (chunkAt spans i) records work e;
       written = passes-written I (known I spans before b) (chunkAt spans i) records work e;
     }
 
@@ -59,7 +59,7 @@ module _ (I : Input) (spans : List Span) (before : Memory) where
   )
 
   -- Of a chunk that opens, where those before it are good: it is refused exactly when it cannot be written.
-  pub refused-exactly : Begins I before → (i : ℕ) → i < length spans → ((j : ℕ) → j < i → Good I spans before j) → OpensAt I spans before i
+  pub refused-exactly : ComesToChunks I before → (i : ℕ) → i < length spans → ((j : ℕ) → j < i → Good I spans before j) → OpensAt I spans before i
       → RefusedAt I spans before i ↔ (¬ Writing (I .script) (chunkAt spans i))
   refused-exactly b i l good o = (to, back (judgedAt (I .script) records work spans i) refl)
     where

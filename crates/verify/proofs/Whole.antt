@@ -37,7 +37,7 @@ use Rattle.verify.specs.Judging.{Judged, judgeAll, Judges}
 use Rattle.verify.specs.declared.spans.Judgement.{Judgement}
 use Rattle.verify.specs.declared.spans.Judgement.the-variants.{Passed as AllPass, Refused as Failed}
 use Rattle.verify.specs.Call.{Memory, BothClear, verdictOn, marksOn, Concludes, startBits, concluded, onward, outcome, result, Calls}
-use Rattle.verify.specs.Demand.{Begins}
+use Rattle.verify.specs.Demand.{ComesToChunks}
 use Rattle.verify.proofs.Accounts.{accounted}
 use Rattle.verify.proofs.Chain.{judge-passes, judge-fails}
 use Rattle.verify.proofs.Sorts.{early-kind, late-kind}
@@ -201,7 +201,7 @@ module _ (I : Input) (spans : List Span) (before : Memory) where
     unfolding early
     both-passed = (known.early-passed I _ _ passed-so, known.late-passed I _ _ passed-so)
 
-    begins : Begins I before
+    begins : ComesToChunks I before
     unfolding early
     begins = record { early = both-passed .0; late = both-passed .1 }
 

@@ -28,7 +28,7 @@ pub record Opens (S : Script) (span : Span) (records work : ℕ) : Type 0 where
   pub work-room : 4 * (1 + E S span) ≤ work
 
 -- all tests before the chunks pass
-pub record Begins (I : Input) (before : Memory) : Type 0 where
+pub record ComesToChunks (I : Input) (before : Memory) : Type 0 where
   pub early : beforeStores I (length (before .marks)) (length (before .heights)) ≡ none
   pub late : afterStores I ≡ none
 
@@ -44,7 +44,7 @@ module _ (I : Input) (spans : List Span) (before : Memory) where
 
   -- a call that has to be accepted
   pub record Acceptable : Type 0 where
-    pub begins : Begins I before
+    pub begins : ComesToChunks I before
     pub chunks : (i : ℕ) → i < length spans → Good i
 
   -- a call that is refused for this chunk's walk, with its number: an instruction on its paths really fails that test, or the largest
