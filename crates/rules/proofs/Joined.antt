@@ -91,14 +91,14 @@ or-true false = refl
 
 module _ {code names chains steps : List ℕ} {at word : ℕ} (A : Asked code names chains steps at word) where
   -- the word says all
-  pub word-rights : word / 65536 ≡ 0 → word ≡ required code names chains steps at
+  pub word-rights : word / 16384 ≡ 0 → word ≡ required code names chains steps at
   unfolding asking
   word-rights z = sym (rw z) ∙ A .asks .needed code names chains steps at refl
 
   -- a name decides
-  module _ (one : word / 65536 ≡ 1) where
+  module _ (one : word / 16384 ≡ 1) where
     qualified : among (tagAt code at) qualifiable ≡ true
-    qualified = A .asks .by-name ∙ eq-eqb (word / 65536) 1 one
+    qualified = A .asks .by-name ∙ eq-eqb (word / 16384) 1 one
 
     name-index : at + 3 ≤ length code
     unfolding among
@@ -107,14 +107,14 @@ module _ {code names chains steps : List ℕ} {at word : ℕ} (A : Asked code na
     pub named-there : indexAt code at < length names
     named-there = A .name-there .name qualified
 
-    pub name-rights : (x : ℕ) → x ≡ ofName names (indexAt code at) → bitOr (word % 65536) x ≡ required code names chains steps at
+    pub name-rights : (x : ℕ) → x ≡ ofName names (indexAt code at) → bitOr (word % 16384) x ≡ required code names chains steps at
     unfolding asking
     name-rights x e = rw e (sym (rw one) ∙ A .asks .needed code names chains steps at refl)
 
   -- a chain does
-  module _ (more : word / 65536 ≡ 0 → ⊥) (not-one : word / 65536 ≡ 1 → ⊥) where
+  module _ (more : word / 16384 ≡ 0 → ⊥) (not-one : word / 16384 ≡ 1 → ⊥) where
     is-chain : tagAt code at ≡ CHAIN
-    is-chain = eqb-true (tagAt code at) CHAIN (A .asks .by-chain ∙ le-leb 2 (word / 65536) (omega arith))
+    is-chain = eqb-true (tagAt code at) CHAIN (A .asks .by-chain ∙ le-leb 2 (word / 16384) (omega arith))
 
     chain-index : at + 3 ≤ length code
     chain-index = chain-there code at (A .wide) is-chain
@@ -125,12 +125,12 @@ module _ {code names chains steps : List ℕ} {at word : ℕ} (A : Asked code na
     pub chain-rights : (x : ℕ) → x ≡ ofChain steps (chainAt chains (indexAt code at)) → x ≡ required code names chains steps at
     unfolding asking
     chain-rights x e =
-        e ∙ sym (rw (ne-eqb (word / 65536) 0 more, ne-eqb (word / 65536) 1 not-one)) ∙ A .asks .needed code names chains steps at refl
+        e ∙ sym (rw (ne-eqb (word / 16384) 0 more, ne-eqb (word / 16384) 1 not-one)) ∙ A .asks .needed code names chains steps at refl
 
   -- whichever decides, its index is there
-  pub index-decided : (word / 65536 ≡ 0 → ⊥) → at + 3 ≤ length code
-  index-decided more = go (eqb (word / 65536) 1) refl
+  pub index-decided : (word / 16384 ≡ 0 → ⊥) → at + 3 ≤ length code
+  index-decided more = go (eqb (word / 16384) 1) refl
     where
-      go : (b : Bool) → eqb (word / 65536) 1 ≡ b → at + 3 ≤ length code
-      go true e = name-index (eqb-true (word / 65536) 1 e)
-      go false e = chain-index more (eqb-false (word / 65536) 1 e)
+      go : (b : Bool) → eqb (word / 16384) 1 ≡ b → at + 3 ≤ length code
+      go true e = name-index (eqb-true (word / 16384) 1 e)
+      go false e = chain-index more (eqb-false (word / 16384) 1 e)

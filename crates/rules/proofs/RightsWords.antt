@@ -17,10 +17,10 @@ use Rattle.rules.specs.There.{qualifiable}
 use Rattle.rules.proofs.Tests.{same, same→eq, all, pass}
 
 abbrev named : ℕ
-named = 65536
+named = 16384
 
 abbrev chained : ℕ
-chained = 131072
+chained = 32768
 
 -- the definition of what is required, with a word in each case
 asked : ℕ → ℕ
@@ -53,8 +53,8 @@ asked-needed code names chains steps p = simp asking-cond
 tests : ℕ → ℕ → List Bool
 unfolding asked
 tests tag word =
-    same (among tag qualifiable) (eqb (word / 65536) 1)
-    ∷ same (eqb tag CHAIN) (leb 2 (word / 65536))
+    same (among tag qualifiable) (eqb (word / 16384) 1)
+    ∷ same (eqb tag CHAIN) (leb 2 (word / 16384))
     ∷ eqb word (asked tag)
     ∷ []
 
@@ -73,11 +73,11 @@ told tag word t = record {
 -- the entries of the code's table, one by one
 abbrev pub words : List ℕ
 words =
-    0 ∷ 0x00000 ∷ 0x00000 ∷ 0x00000 ∷ 0x00000 ∷ 0x00000 ∷ 0x00000 ∷ 0x00000 ∷ 0x00000 ∷ 0x00000 ∷ 0x00000 ∷ 0x00000 ∷ 0x00000 ∷ 0x00000 ∷ 0x00000 ∷ 0x00080 ∷
-    0x00020 ∷ 0x00002 ∷ 0x00002 ∷ 0x00002 ∷ 0x00002 ∷ 0x00000 ∷ 0x00060 ∷ 0x00020 ∷ 0x00020 ∷ 0x00020 ∷ 0x00020 ∷ 0x00000 ∷ 0x00000 ∷ 0x00080 ∷ 0x00080 ∷ 0x00000 ∷
-    0x00000 ∷ 0x00000 ∷ 0x00002 ∷ 0x00020 ∷ 0x00000 ∷ 0x00000 ∷ 0x10000 ∷ 0x00000 ∷ 0x00000 ∷ 0x00000 ∷ 0x00000 ∷ 0x00000 ∷ 0x20000 ∷ 0x00100 ∷ 0x00200 ∷ 0x00000 ∷
-    0x00000 ∷ 0x00000 ∷ 0x00400 ∷ 0x00000 ∷ 0x10000 ∷ 0x10002 ∷ 0x00020 ∷ 0x00020 ∷ 0x00000 ∷ 0x00000 ∷ 0x00000 ∷ 0x00000 ∷ 0x00000 ∷ 0x00000 ∷ 0x00800 ∷ 0x00800 ∷
-    0x00000 ∷ 0x00000 ∷ 0x10000 ∷ 0x10000 ∷ 0x10000 ∷ 0x00000 ∷ 0x00000 ∷ 0x00000 ∷ 0 ∷ 0 ∷ 0 ∷ 0 ∷ 0 ∷ 0 ∷ 0 ∷ 0x01000 ∷
+    0 ∷ 0x0000 ∷ 0x0000 ∷ 0x0000 ∷ 0x0000 ∷ 0x0000 ∷ 0x0000 ∷ 0x0000 ∷ 0x0000 ∷ 0x0000 ∷ 0x0000 ∷ 0x0000 ∷ 0x0000 ∷ 0x0000 ∷ 0x0000 ∷ 0x0080 ∷
+    0x0020 ∷ 0x0002 ∷ 0x0002 ∷ 0x0002 ∷ 0x0002 ∷ 0x0000 ∷ 0x0060 ∷ 0x0020 ∷ 0x0020 ∷ 0x0020 ∷ 0x0020 ∷ 0x0000 ∷ 0x0000 ∷ 0x0080 ∷ 0x0080 ∷ 0x0000 ∷
+    0x0000 ∷ 0x0000 ∷ 0x0002 ∷ 0x0020 ∷ 0x0000 ∷ 0x0000 ∷ 0x4000 ∷ 0x0000 ∷ 0x0000 ∷ 0x0000 ∷ 0x0000 ∷ 0x0000 ∷ 0x8000 ∷ 0x0100 ∷ 0x0200 ∷ 0x0000 ∷
+    0x0000 ∷ 0x0000 ∷ 0x0400 ∷ 0x0000 ∷ 0x4000 ∷ 0x4002 ∷ 0x0020 ∷ 0x0020 ∷ 0x0000 ∷ 0x0000 ∷ 0x0000 ∷ 0x0000 ∷ 0x0000 ∷ 0x0000 ∷ 0x0800 ∷ 0x0800 ∷
+    0x0000 ∷ 0x0000 ∷ 0x4000 ∷ 0x4000 ∷ 0x4000 ∷ 0x0000 ∷ 0x0000 ∷ 0x0000 ∷ 0 ∷ 0 ∷ 0 ∷ 0 ∷ 0 ∷ 0 ∷ 0 ∷ 0x1000 ∷
     replicate 176 0
 
 -- each passes at its tag
@@ -86,5 +86,5 @@ unfolding fits-tag
 asks-at tag h = told tag (getD words tag 0) (each fits-tag words tt tag h)
 
 -- and so does what is looked up in the number of its group
-pub asks-packed : {number : ℕ} (tag : ℕ) → tag < 256 → number ≡ getD asks (tag / 3) 0 → Asks tag (number / 2 ^ (tag % 3 * 20) % 1048576)
-asks-packed tag h e = rw (e, packed-at 3 20 asks words tt tag h) (asks-at tag h)
+pub asks-packed : {number : ℕ} (tag : ℕ) → tag < 256 → number ≡ getD asks (tag / 4) 0 → Asks tag (number / 2 ^ (tag % 4 * 16) % 65536)
+asks-packed tag h e = rw (e, packed-at 4 16 asks words tt tag h) (asks-at tag h)

@@ -1,5 +1,5 @@
 -- What the word that the crate keeps of a tag's rights says: the rights that it needs whatever its operands are, and above
--- them, from 65536 on, what else decides: 0 nothing, 1 the flag of a name, 2 a chain.
+-- them, from 16384 on, what else decides: 0 nothing, 1 the flag of a name, 2 a chain.
 use mathlib.Core.Bool.{cond}
 use mathlib.Core.List.{List}
 use mathlib.Core.Path.{_≡_}
@@ -14,10 +14,10 @@ use Rattle.rules.specs.There.{qualifiable}
 
 -- what a word asks for, where the name and the chain ask for these
 unfoldable pub asking : (word name chain : ℕ) → ℕ
-asking word name chain = cond (eqb (word / 65536) 0) word (cond (eqb (word / 65536) 1) (bitOr (word % 65536) name) chain)
+asking word name chain = cond (eqb (word / 16384) 0) word (cond (eqb (word / 16384) 1) (bitOr (word % 16384) name) chain)
 
 pub record Asks (tag word : ℕ) : Type 0 where
-  pub by-name : among tag qualifiable ≡ eqb (word / 65536) 1
-  pub by-chain : eqb tag CHAIN ≡ leb 2 (word / 65536)
+  pub by-name : among tag qualifiable ≡ eqb (word / 16384) 1
+  pub by-chain : eqb tag CHAIN ≡ leb 2 (word / 16384)
   pub needed : (code names chains steps : List ℕ) (p : ℕ) → tagAt code p ≡ tag
       → asking word (ofName names (indexAt code p)) (ofChain steps (chainAt chains (indexAt code p))) ≡ required code names chains steps p

@@ -55,7 +55,7 @@ use denote.Triple.Statement.{Contract, Triple}
 use denote.Triple.Call.{calls-at}
 use denote.Triple.Clauses.{ensured, lasts}
 use denote.Triple.Table.{entered, cited}
-use denote.Triple.Walked.{says, needs, Stays, stay-none, stay-none-slice, stay-slice, walkOf, goes-none, goes-none-slice, goes-slice, Walks, ends-at, walked, walk-meets}
+use denote.Triple.Walked.{says, Stays, stay-none, stay-none-slice, stay-slice, walkOf, goes-none, goes-none-slice, goes-slice, Walks, ends-at, walked, walk-meets}
 use denote.Exit.{yes}
 use Rattle.before.specs.Input.{Input}
 use Rattle.rules.specs.declared.verdict.Verdict.{Verdict}
@@ -89,7 +89,7 @@ use Rattle.grain.specs.Chunks.{spanOf, spansFrom}
 use Rattle.grain.specs.declared.Chunk.{Chunk}
 use Rattle.grain.proofs.Chunk as T
 use Rattle.grain.proofs.Chunk.Laws as T′
-use Rattle.grain.proofs.Rules.{spread, past, learns, has-u16, has-u32, has-usize, value, envOf, holds, ends, allots, frees, opens-owns, owned-twice, Behind, lists, relent, LentAgain, lends, gives-back}
+use Rattle.grain.proofs.Rules.{spread, past, learns, has-u16, has-u32, has-usize, value, envOf, holds, ends, allots, frees, opens-owns, owned-twice, Behind, lists, relent, lends, gives-back}
 use Rattle.grain.proofs.Spans.{noChunk, spans-count, span-there}
 use Rattle.grain.proofs.grain_verify as own
 use Rattle.grain.proofs.grain_verify.Key.{name as #grain-verify}
@@ -163,7 +163,7 @@ fn′ = record { lifetimes = 13; outlives = []; params = 17; locals = locals; bo
 same : compiled.function ≡ fn′
 same = refl
 
--- a state's, and a chunk's, machine value
+-- a state as it lies in its local
 abbrev mach : State → Val
 mach state = EL.val S.the-type S′.the-laws state
 
@@ -234,6 +234,10 @@ module _ {M : Type 1} (𝓤 : URA M) (H : Heap 𝓤) (A : Atoms 𝓤) (W : Given
   abbrev vals : Vals own.signature κs
   vals =
       (vint w32 rights ∷ [], (vint w32 functions ∷ [], (slice constants ∷ [], (slice names ∷ [], (vint w64 tokens ∷ [], (vint w64 opAssignments ∷ [], (slice chains ∷ [], (slice steps ∷ [], (slice switches ∷ [], (slice cases ∷ [], (slice ranges ∷ [], (slice code ∷ [], (chunk-slice ∷ [], (slice marks ∷ [], (slice heights ∷ [], (slice records ∷ [], (slice work ∷ [], tt)))))))))))))))))
+
+  abbrev machine : List Val
+  machine =
+      vint w32 rights ∷ vint w32 functions ∷ slice constants ∷ slice names ∷ vint w64 tokens ∷ vint w64 opAssignments ∷ slice chains ∷ slice steps ∷ slice switches ∷ slice cases ∷ slice ranges ∷ slice code ∷ chunk-slice ∷ slice marks ∷ slice heights ∷ slice records ∷ slice work ∷ []
 
   abbrev bound : walkOf 𝓤 H A own.ended stayed (own.clauses 𝓤 H A mem run) .Ghost
   bound = ((κs, qs, tt, passed, vals), tt)
@@ -578,8 +582,7 @@ module _ {M : Type 1} (𝓤 : URA M) (H : Heap 𝓤) (A : Atoms 𝓤) (W : Given
     fm = fmOf 𝓤 H (W .laws) 𝓣
 
     abbrev params : List (Option Val)
-    params =
-        one (vint w32 rights) ∷ one (vint w32 functions) ∷ one (slice constants) ∷ one (slice names) ∷ one (vint w64 tokens) ∷ one (vint w64 opAssignments) ∷ one (slice chains) ∷ one (slice steps) ∷ one (slice switches) ∷ one (slice cases) ∷ one (slice ranges) ∷ one (slice code) ∷ one chunk-slice ∷ one (slice marks) ∷ one (slice heights) ∷ one (slice records) ∷ one (slice work) ∷ []
+    params = map one machine
 
     module _ (L : ℕ → ℕ) where
       abbrev En : Env 𝓤 H
@@ -678,7 +681,7 @@ module _ {M : Type 1} (𝓤 : URA M) (H : Heap 𝓤) (A : Atoms 𝓤) (W : Given
           use1 W (take-gave m chunk ν1 ν2 ν3 ν4 δ1 δ2 δ3 δ4 v) (id⊢ 𝓤 _) $ await ! tt $ pick ! (λ z.
           split ! $ move ! (1 ∷ []) $ use1 W (take-said m chunk ν1 ν2 ν3 ν4 δ1 δ2 δ3 δ4 z) (id⊢ 𝓤 _) $ pick ! (λ ws.
           split ! $ move ! (1 ∷ []) $ heard ! (Taken m chunk z (lists 13 ws)) (λ said.
-          past ! $ past ! $ past ! $ past ! $ past ! $ past ! $ past ! $ past ! $ past ! $ past ! $ past ! $ past ! $ past ! $
+          past W 13 $
           learns ! (λ long1. learns ! (λ long2. learns ! (λ long3. learns ! (λ long4. lose ! $
           move ! (4 ∷ []) $ split ! $
           move ! (1 ∷ []) $ peeks ! S.the-row (Is S.the-row) (shows 𝓤 H A S.the-row) z (v ∷ []) (λ is. lose ! $ move ! (locals-at 5) $
@@ -759,7 +762,7 @@ module _ {M : Type 1} (𝓤 : URA M) (H : Heap 𝓤) (A : Atoms 𝓤) (W : Given
           use1 W (begin-gave ν1 ν2 ν3 δ1 δ2 δ3 v) (id⊢ 𝓤 _) $ await ! tt $ pick ! (λ z.
           split ! $ move ! (1 ∷ []) $ use1 W (begin-said ν1 ν2 ν3 δ1 δ2 δ3 z) (id⊢ 𝓤 _) $ pick ! (λ ws.
           split ! $ move ! (1 ∷ []) $ heard ! (Begun z (lists 14 ws)) (λ said.
-          past ! $ past ! $ past ! $ past ! $ past ! $ past ! $ past ! $ past ! $ past ! $ past ! $ past ! $ past ! $ past ! $ past ! $
+          past W 14 $
           learns ! (λ long1. learns ! (λ long2. learns ! (λ long3. lose ! $
           move ! (3 ∷ []) $ split ! $
           move ! (1 ∷ []) $ peeks ! S.the-row (Is S.the-row) (shows 𝓤 H A S.the-row) z (v ∷ []) (λ is. lose ! $ move ! (locals-at 4) $
@@ -785,9 +788,9 @@ module _ {M : Type 1} (𝓤 : URA M) (H : Heap 𝓤) (A : Atoms 𝓤) (W : Given
     abbrev Entry : List (Item 𝓤)
     Entry = all-tokens ∷ ‵ (owns rows passed vals) ∷ []
 
-    walk₀ : ent 𝓤 (⋆ 𝓤 H A Entry) (WpFn 𝓤 H C Λ fn′ (vint w32 rights ∷ vint w32 functions ∷ slice constants ∷ slice names ∷ vint w64 tokens ∷ vint w64 opAssignments ∷ slice chains ∷ slice steps ∷ slice switches ∷ slice cases ∷ slice ranges ∷ slice code ∷ chunk-slice ∷ slice marks ∷ slice heights ∷ slice records ∷ slice work ∷ []) Post)
+    walk₀ : ent 𝓤 (⋆ 𝓤 H A Entry) (WpFn 𝓤 H C Λ fn′ machine Post)
     walk₀ =
-        qed W Entry ∵ enter ! C Λ fn′ (vint w32 rights ∷ vint w32 functions ∷ slice constants ∷ slice names ∷ vint w64 tokens ∷ vint w64 opAssignments ∷ slice chains ∷ slice steps ∷ slice switches ∷ slice cases ∷ slice ranges ∷ slice code ∷ chunk-slice ∷ slice marks ∷ slice heights ∷ slice records ∷ slice work ∷ []) _ $
+        qed W Entry ∵ enter ! C Λ fn′ machine _ $
         allots ! locals (λ L. params1 ! $
         pass1 ! (init ! 1 refl (tt, record { fits = rights-fit })) $
         pass1 ! (init ! 2 refl (tt, record { fits = functions-fit })) $
@@ -815,8 +818,10 @@ module _ {M : Type 1} (𝓤 : URA M) (H : Heap 𝓤) (A : Atoms 𝓤) (W : Given
         keep ! (locals-at 24 ++ (65 ∷ 10 ∷ 11 ∷ 12 ∷ 13 ∷ 14 ∷ 15 ∷ 16 ∷ 17 ∷ 18 ∷ 19 ∷ 20 ∷ 21 ∷ 22 ∷ 0 ∷ 5 ∷ 6 ∷ 7 ∷ 8 ∷ 9 ∷ [])) $
         by ! (body L))
 
-    walk : ent 𝓤 (onEntry 𝓤 H A own.signature κs qs passed vals) (WpFn 𝓤 H C Λ compiled.function (vint w32 rights ∷ vint w32 functions ∷ slice constants ∷ slice names ∷ vint w64 tokens ∷ vint w64 opAssignments ∷ slice chains ∷ slice steps ∷ slice switches ∷ slice cases ∷ slice ranges ∷ slice code ∷ chunk-slice ∷ slice marks ∷ slice heights ∷ slice records ∷ slice work ∷ []) Post)
-    walk = subst (λ (F : Fn). ent 𝓤 (⋆ 𝓤 H A Entry) (WpFn 𝓤 H C Λ F (vint w32 rights ∷ vint w32 functions ∷ slice constants ∷ slice names ∷ vint w64 tokens ∷ vint w64 opAssignments ∷ slice chains ∷ slice steps ∷ slice switches ∷ slice cases ∷ slice ranges ∷ slice code ∷ chunk-slice ∷ slice marks ∷ slice heights ∷ slice records ∷ slice work ∷ []) Post)) (sym same) walk₀
+    walk : ent 𝓤 (onEntry 𝓤 H A own.signature κs qs passed vals) (WpFn 𝓤 H C Λ compiled.function machine Post)
+    walk = subst (λ (F : Fn). ent 𝓤 (⋆ 𝓤 H A Entry) (WpFn 𝓤 H C Λ F machine Post)) (sym same) walk₀
+
+-- ---- from the walk to the contract
 
 -- the lifetime, and the share, of a number
 abbrev lft : (n : ℕ) → Lfts n → ℕ → Lft

@@ -66,28 +66,7 @@ returns-20 : tie.Need-returns-20
 returns-20 c = rw (c .match .keys20) refl
 
 returns-21 : tie.Need-returns-21
-returns-21 c = rw (c .match .keys21) refl
-
-returns-22 : tie.Need-returns-22
-returns-22 c = rw (c .match .keys22) refl
-
-returns-23 : tie.Need-returns-23
-returns-23 c = rw (c .match .keys23) refl
-
-returns-24 : tie.Need-returns-24
-returns-24 c = rw (c .match .keys24) refl
-
-returns-25 : tie.Need-returns-25
-returns-25 c = rw (c .match .keys25) refl
-
-returns-26 : tie.Need-returns-26
-returns-26 c = rw (c .match .keys26) refl
-
-returns-27 : tie.Need-returns-27
-returns-27 c = rw (c .match .keys27) refl
-
-returns-28 : tie.Need-returns-28
-returns-28 c = no-arm asks (c .before .args .group) (c .match .rest)
+returns-21 c = no-arm asks (c .before .args .group) (c .match .rest)
 
 pub packed-spec : {M : Type 1} → statement M
 packed-spec =
@@ -113,11 +92,4 @@ packed-spec =
     returns-18
     returns-19
     returns-20
-    returns-21
-    returns-22
-    returns-23
-    returns-24
-    returns-25
-    returns-26
-    returns-27
-    returns-28)
+    returns-21)
