@@ -9,10 +9,11 @@
  *   - a pointer has as many elements as the length beside it says, and is aligned for its type;
  *   - a pointer is null only where its length is 0;
  *   - none of the four buffers overlaps another or anything that the call reads, and nobody else
- *     reads or writes them during the call.
- * Everything else may hold anything. What is read is never changed.
+ *     reads or writes them during the call;
+ *   - nobody writes anything that the call reads while it runs.
+ * Everything else may hold anything. What is read is never changed by the call.
  *
- * The library is for machines whose size_t has 64 bits.
+ * The library is for x86-64. It asks its linker for memset and for nothing else.
  */
 #ifndef GRAIN_H
 #define GRAIN_H
@@ -103,6 +104,7 @@ typedef struct grain_chunk {
     uint32_t end;       /* offset just past it */
     uint16_t max_stack; /* the stack height that the script declares for it */
 } grain_chunk;
+typedef char grain_chunk_has_12_bytes[sizeof(grain_chunk) == 12 ? 1 : -1];
 
 /* ---- What comes back ------------------------------------------------------------------------ */
 
@@ -209,6 +211,7 @@ typedef struct grain_verdict {
     uint64_t reached;      /* of each chunk, instructions that a run can come to; summed over chunks */
     uint64_t taken;        /* of each chunk, 1 + the edges out of those; summed over chunks */
 } grain_verdict;
+typedef char grain_verdict_has_56_bytes[sizeof(grain_verdict) == 56 ? 1 : -1];
 
 /* ---- The call ------------------------------------------------------------------------------- */
 

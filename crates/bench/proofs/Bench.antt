@@ -28,7 +28,7 @@ use Rattle.rules.specs.Paths.{iteratorsNeeded, handlersNeeded}
 use Rattle.rules.specs.Rights.{required, lacking, ofName, ofChain}
 use Rattle.rules.specs.Rule.{allTargets, rule, judge}
 use Rattle.rules.specs.Walk.{push, firstBad, seen, turn, run, lookup}
-use Rattle.verify.specs.Call.{Result, verdictOn, marksOn, concluded, onward, outcome}
+use Rattle.verify.specs.Call.{verdictOn, marksOn, concluded, onward, outcome}
 use Rattle.verify.specs.Judging.{judgeAll}
 
 computed : map answered bench ≡ map expected bench

@@ -6,7 +6,7 @@ use Prim.Native.Nat.{ℕ}
 use native.Mathlib.Omega.{arith}
 use lib.ListN.{getD}
 use Rattle.bench.proofs.Bench.{answers}
-use Rattle.bench.specs.Bench.{Row, answered, documented, tried, bench, lent, p1, p6, two, spoiled, counted}
+use Rattle.bench.specs.Bench.{Row, answered, documented, bench, lent, p1, p6, two, spoiled, counted}
 use Rattle.bench.specs.Frauds.{Comes, Refuses, OneHeight, StoresNothing, in-marks, in-records, in-work, FirstOnly, in-kind, Invents, of-instructions, of-reached, of-taken}
 use Rattle.bench.specs.Frauds as fraud
 use Rattle.rules.specs.declared.verdict.Verdict.{Verdict}

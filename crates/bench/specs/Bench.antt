@@ -4,7 +4,6 @@ use mathlib.Core.List.{List, [], _∷_, _++_}
 use Prim.Native.Nat.{ℕ, _+_, _^_}
 use lib.ListN.{length, replicate}
 use Rattle.before.specs.Input.{Input}
-use Rattle.rules.specs.declared.verdict.Verdict.{Verdict}
 use Rattle.rules.specs.Script.{Span}
 use Rattle.verify.specs.Call.{Memory, Result, result}
 

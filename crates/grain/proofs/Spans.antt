@@ -9,15 +9,15 @@ use Rattle.grain.specs.declared.Chunk.{Chunk}
 use Rattle.grain.specs.Chunks.{spanOf, spansFrom}
 
 -- what lies past the end of a list of chunks
-abbrev pub noChunk : Chunk
-noChunk = record { entry = 0; end = 0; «max_stack» = 0 }
+abbrev pub no-chunk : Chunk
+no-chunk = record { entry = 0; end = 0; «max_stack» = 0 }
 
 pub spans-count : (chunks : List Chunk) → length (spansFrom chunks) ≡ length chunks
 unfolding spansFrom
 spans-count [] = refl
 spans-count (c ∷ chunks) = ap suc (spans-count chunks)
 
-pub span-there : (chunks : List Chunk) (k : ℕ) → k < length chunks → chunkAt (spansFrom chunks) k ≡ spanOf (getD chunks k noChunk)
+pub span-there : (chunks : List Chunk) (k : ℕ) → k < length chunks → chunkAt (spansFrom chunks) k ≡ spanOf (getD chunks k no-chunk)
 unfolding spansFrom
 span-there [] k l = absurd (not-suc-le-zero l)
 span-there (c ∷ chunks) zero l = refl

@@ -1,7 +1,7 @@
 // The C boundary: the one function that is offered to other languages, over a lent list of chunk records.
 // Any input gets an answer: its verdict, and every word of the four lent buffers, are those of the whole call.
-// Left to the caller's word: no two buffers overlap, a pointer has as many elements as its length says, and it is null only where
-// that length is 0.
+// Left to the caller's word: a pointer has as many elements as its length says, is aligned, and is null only where that length is
+// 0; no buffer overlaps another or anything that is read; and nobody else writes what is lent or read while the call runs.
 ghost use lib.ListN.{length};
 ghost use Rattle.before.specs.Input.{input};
 ghost use Rattle.verify.specs.Call.{Calls};

@@ -1,5 +1,5 @@
-// The rights that instructions ask for, as bits of a word, and which tag asks for which. Document 01 numbers the bits;
-// FUNCTION, its bit 0, and those above MODULE are asked for by no instruction.
+// The rights that instructions ask for, as bits of a word, and which tag asks for which. Document 01 numbers the bits: from THIS,
+// bit 1, to MODULE, bit 13. FUNCTION, bit 0, and those above MODULE are asked for by no instruction.
 ghost use mathlib.Core.Path.{_≡_};
 ghost use lib.ListN.{getD};
 ghost use Rattle.rules.specs.Asks.{Asks};
@@ -13,28 +13,10 @@ pub const PROPERTY: u32 = 0x0008;
 
 pub const METHOD: u32 = 0x0010;
 
-pub const FN_PTR: u32 = 0x0020;
-
-pub const CURRYING: u32 = 0x0040;
-
-pub const SHARING: u32 = 0x0080;
-
-pub const ARRAY: u32 = 0x0100;
-
-pub const MAP: u32 = 0x0200;
-
-pub const CUSTOM_SYNTAX: u32 = 0x0400;
-
-pub const EXPORT: u32 = 0x0800;
-
-pub const IMPORT: u32 = 0x1000;
-
 pub const MODULE: u32 = 0x2000;
 
-// Above the bits: what else decides, the flag of the name that the instruction names, or its chain.
+// Above the bits: what else decides, once this number for the flag of the name that the instruction names, twice for its chain.
 pub const NAMED: u32 = 0x4000;
-
-pub const CHAINED: u32 = 0x8000;
 
 // The words, four to a number, each at its four digits: that of the tag 4 * group in the lowest, and of the three after it
 // above. Numbers, because an array would be copied to the stack at every look. A word has the rights that the tag needs

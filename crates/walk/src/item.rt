@@ -259,7 +259,7 @@ fn enter(
 {
     let at = hand.place as usize;
     let depths = hand.depths;
-    // The tag is looked up once: the rule and the number of targets go by its word.
+    // The tag's word is looked up once: the rule and the number of targets go by it.
     let word = rules::shapes::word_at(code, at);
     let ruling = ruling::rule_of(
         word,

@@ -90,7 +90,7 @@ use Rattle.grain.specs.declared.Chunk.{Chunk}
 use Rattle.grain.proofs.Chunk as T
 use Rattle.grain.proofs.Chunk.Laws as T′
 use Rattle.grain.proofs.Rules.{spread, past, learns, has-u16, has-u32, has-usize, value, envOf, holds, ends, allots, frees, opens-owns, owned-twice, Behind, lists, relent, lends, gives-back}
-use Rattle.grain.proofs.Spans.{noChunk, spans-count, span-there}
+use Rattle.grain.proofs.Spans.{no-chunk, spans-count, span-there}
 use Rattle.grain.proofs.grain_verify as own
 use Rattle.grain.proofs.grain_verify.Key.{name as #grain-verify}
 use Rattle.grain.proofs.grain_verify.Statement as stated
@@ -548,7 +548,7 @@ module _ {M : Type 1} (𝓤 : URA M) (H : Heap 𝓤) (A : Atoms 𝓤) (W : Given
       asked-here = stands-asks (I (length spans)) spans before (m .number) (m .marks) (m .heights) (m .records) (m .work) refl (m .state) (k .stands) among-spans
 
       next-kept : (z : State) (ws : Four) → Is S.the-row z (mach z ∷ []) → length (ws .0) ≡ length (m .marks) → length (ws .1 .0) ≡ length (m .heights)
-          → length (ws .1 .1 .0) ≡ length (m .records) → length (ws .1 .1 .1 .0) ≡ length (m .work) → Taken m (getD (chunks .now) (m .number) noChunk) z ws
+          → length (ws .1 .1 .0) ≡ length (m .records) → length (ws .1 .1 .1 .0) ≡ length (m .work) → Taken m (getD (chunks .now) (m .number) no-chunk) z ws
           → Kept (count - (m .number + 1)) (taken m z ws)
       next-kept z ws is m-long h-long r-long w-long said = record {
         left-over = refl;
@@ -650,10 +650,10 @@ module _ {M : Type 1} (𝓤 : URA M) (H : Heap 𝓤) (A : Atoms 𝓤) (W : Given
           move ! (1 ∷ []) $ fsplit ! $
           move ! (1 ∷ 53 ∷ []) $
           looks-slice ! tt T.the-row (Is T.the-row) (shows 𝓤 H A T.the-row) (LL.vals T.the-type T′.the-laws) (LL.tells T.the-type T′.the-laws) (LL.copy T.the-type T′.the-copy 𝓤 H A W) (chunks .now) (chunks .ptr .0) (chunks .ptr .1) (λ q′.
-          elem-out ! T.the-row (Is T.the-row) (shows 𝓤 H A T.the-row) (LL.vals T.the-type T′.the-laws) (LL.tells T.the-type T′.the-laws) q′ (chunks .now) (m .number) noChunk (chunks .ptr .0) (chunks .ptr .1) lt (λ isC.
+          elem-out ! T.the-row (Is T.the-row) (shows 𝓤 H A T.the-row) (LL.vals T.the-type T′.the-laws) (LL.tells T.the-type T′.the-laws) q′ (chunks .now) (m .number) no-chunk (chunks .ptr .0) (chunks .ptr .1) lt (λ isC.
           assigns ! (of-opd ! (load ! (from ! (hop ! (look ! 38 refl) (stop !))) (look-raw ! 0 refl))) (from ! (stop !)) (init ! 39 refl (LL.lawful T.the-type T′.the-laws 𝓤 H A W .typed chunk _ isC .0)) $
           assigns ! (of-opd ! (value ! 39 refl)) (from ! (stop !)) (init ! 27 refl (LL.lawful T.the-type T′.the-laws 𝓤 H A W .typed chunk _ isC .0)) $
-          elem-back ! T.the-row q′ (chunks .now) (m .number) noChunk (LL.vals T.the-type T′.the-laws chunk) (chunks .ptr .0) (chunks .ptr .1) lt $ shuts-slice ! tt T.the-row q′ (chunks .now) (chunks .ptr .0) (chunks .ptr .1) $
+          elem-back ! T.the-row q′ (chunks .now) (m .number) no-chunk (LL.vals T.the-type T′.the-laws chunk) (chunks .ptr .0) (chunks .ptr .1) lt $ shuts-slice ! tt T.the-row q′ (chunks .now) (chunks .ptr .0) (chunks .ptr .1) $
           move ! (2 ∷ 1 ∷ []) $ fjoin ! $
           move ! (2 ∷ 0 ∷ []) $ fjoin ! $
           -- the four buffers are lent again
@@ -700,7 +700,7 @@ module _ {M : Type 1} (𝓤 : URA M) (H : Heap 𝓤) (A : Atoms 𝓤) (W : Given
           (next-kept t m k ge z (lists 13 ws) (subst (Is S.the-row z) (EL.tells S.the-type S′.the-laws z _ is) is) long1 long2 long3 long4 said)))))))))))))))))
         where
           chunk : Chunk
-          chunk = getD (chunks .now) (m .number) noChunk
+          chunk = getD (chunks .now) (m .number) no-chunk
 
           lt : m .number < count
           lt = here t m k ge

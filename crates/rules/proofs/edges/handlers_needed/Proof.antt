@@ -1,5 +1,4 @@
 -- `rules::edges::handlers_needed` meets its contract: the flow tells which tag needs one.
-use borrow.Author.Needs.{needs}
 use Rattle.rules.proofs.Flows.{handlers-of, no-handlers}
 use Rattle.rules.proofs.edges.handlers_needed.Statement.{statement}
 use Rattle.rules.proofs.edges.handlers_needed.Tie as tie

@@ -1,5 +1,4 @@
 -- `rules::edges::iterators_needed` meets its contract: the flow tells which tags need one.
-use borrow.Author.Needs.{needs}
 use Rattle.rules.proofs.Flows.{iterators-of, no-iterators}
 use Rattle.rules.proofs.edges.iterators_needed.Statement.{statement}
 use Rattle.rules.proofs.edges.iterators_needed.Tie as tie
