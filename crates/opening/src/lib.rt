@@ -6,7 +6,9 @@ ghost use mathlib.Core.Path.{_≡_};
 ghost use Prim.Native.Nat.{ℕ, _+_, _-_, _^_, _≤_, _<_};
 ghost use lib.ListN.{length, drop, replicate};
 ghost use lib.Seq.{sets};
+ghost use Rattle.code.specs.Layout.{tagAt};
 ghost use Rattle.code.specs.Width.{widthAt};
+ghost use Rattle.rules.specs.Shapes.{Shape};
 ghost use Rattle.rules.specs.There.{SwitchThere};
 ghost use Rattle.opening.specs.Listing.{targetsAt, fallAt, OneListed, EntryStored, AllListed};
 ghost use Rattle.opening.specs.Opens.{KeysLaid, Opens};
@@ -71,8 +73,9 @@ fn store_targets(
     }
 }
 
-// One instruction: it adds to both counts, and its targets are stored while records has room.
+// One instruction: it adds to both counts, and its targets are stored while records has room. The word is that of its tag.
 pub fn list_instruction(
+    word: u64,
     code: &[u8],
     at: usize,
     switches: &[u32],
@@ -81,6 +84,7 @@ pub fn list_instruction(
     before: Listed,
     records: &mut [u32],
 ) -> Listed
+    requires { ⌜ Shape (tagAt (now code) at) word ⌝ }
     requires { ⌜ 0 < widthAt (now code) at ⌝ }
     requires { ⌜ SwitchThere (now code) (now switches) (now cases) (now ranges) at ⌝ }
     requires { ⌜ before .stored ≤ length (now records) ⌝ }
@@ -90,7 +94,7 @@ pub fn list_instruction(
         (fallAt (now (code .entry)) (now (switches .entry)) (now (cases .entry)) (now (ranges .entry)) at)
         before (now (records .entry)) r (now (records .exit)) ⌝ }
 {
-    let flow = rules::shapes::flow_of(rules::shapes::word_at(code, at));
+    let flow = rules::shapes::flow_of(word);
     let count = rules::edges::target_count(flow, code, at, switches);
     let edges = rules::edges::edge_count(flow, count);
     let stored = before.stored;
@@ -146,8 +150,9 @@ pub fn list_chunk(
     };
     let mut at = entry as usize;
     while at < end as usize {
-        listed = list_instruction(code, at, switches, cases, ranges, listed, records);
-        at += code::width_of(code[at]);
+        let word = rules::shapes::word_at(code, at);
+        listed = list_instruction(word, code, at, switches, cases, ranges, listed, records);
+        at += rules::shapes::width_in(word);
     }
     listed
 }

@@ -13,7 +13,7 @@ use Rattle.code.specs.Told.{Told, found, without}
 use Rattle.code.specs.Width.{widthOf, widthAt, toldAt}
 use Rattle.pools.specs.Pools.{whole, chainAt, switchAt}
 use Rattle.rules.proofs.Operands.{index-there}
-use Rattle.rules.specs.There.{qualifiable}
+use Rattle.rules.specs.Asks.{qualifiable}
 use Rattle.probe.specs.Instruction.{hasWidth, hasName, hasChain, hasSwitch}
 
 -- tests joined from the left, as the code does, and from the right, as the definition does

@@ -14,7 +14,7 @@ use Rattle.pools.specs.Pools.{Chain, Switch, whole, chainAt, switchAt}
 use Rattle.rules.specs.Edges.{falls, targetsOf}
 use Rattle.rules.specs.Effects as effects
 use Rattle.rules.specs.Rights.{required}
-use Rattle.rules.specs.There.{qualifiable}
+use Rattle.rules.specs.Asks.{qualifiable}
 use Rattle.probe.specs.declared.instruction.EffectTold.{EffectTold}
 
 module _ (code : List ℕ) (at : ℕ) where

@@ -5,7 +5,7 @@ ghost use Prim.Native.Nat.{_+_, _<_};
 ghost use lib.Dec.{leb};
 ghost use Rattle.code.specs.Layout.{among};
 ghost use Rattle.code.specs.Width.{widthAt};
-ghost use Rattle.rules.specs.There.{qualifiable};
+ghost use Rattle.rules.specs.Asks.{qualifiable};
 ghost use Rattle.probe.specs.Instruction.{hasWidth, hasName, hasChain, hasSwitch, isThere};
 use code::Width;
 use code::tag;

@@ -69,7 +69,8 @@ pub extern "C" fn probe_required(
             value: 0,
         };
     }
-    let required = rights::required_caps(code, at, names, chains, steps);
+    let word = shapes::word_at(code, at);
+    let required = rights::required_caps(word, code, at, names, chains, steps);
     Told {
         number: 0,
         value: required as u64,

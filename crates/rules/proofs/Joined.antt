@@ -12,9 +12,9 @@ use Rattle.code.specs.Layout.{among, tagAt, indexAt}
 use Rattle.code.specs.Tags.{CHAIN}
 use Rattle.code.specs.Width.{widthAt}
 use Rattle.pools.specs.Pools.{chainAt, stepAt, entries}
-use Rattle.rules.specs.Asks.{asking, Asks}
+use Rattle.rules.specs.Asks.{qualifiable, asking, Asks}
 use Rattle.rules.specs.Rights.{THIS, INDEXING, PROPERTY, METHOD, MODULE, ofName, ofStep, ofSteps, ofChain, required}
-use Rattle.rules.specs.There.{qualifiable, NameThere, ChainWhole, ChainThere}
+use Rattle.rules.specs.There.{NameThere, ChainWhole, ChainThere}
 use Rattle.rules.proofs.Operands.{index-there, chain-there}
 
 -- the flag of a name

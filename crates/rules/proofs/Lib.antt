@@ -29,6 +29,7 @@ pub mod CountPlaces
 pub mod Amounts
 pub mod RightsWords
 pub mod Joined
+pub mod Simple
 pub mod Flows
 pub mod Arms
 pub mod Targets

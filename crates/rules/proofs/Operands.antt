@@ -11,9 +11,9 @@ use Rattle.code.proofs.Widths.{Wide, width-there}
 use Rattle.code.specs.Layout.{layout, among, tagAt}
 use Rattle.code.specs.Tags.{CHAIN, SWITCH}
 use Rattle.code.specs.Width.{widthOf, widthAt}
+use Rattle.rules.specs.Asks.{qualifiable}
 use Rattle.rules.specs.Edges.{jumping}
 use Rattle.rules.specs.Shapes.{placeFrom}
-use Rattle.rules.specs.There.{qualifiable}
 use Rattle.rules.proofs.Tests.{pass-at}
 
 -- how far a count at a place reaches from the tag

@@ -1,19 +1,14 @@
--- The entries of the table of rights: the tests that an entry has to pass at its tag, and what the table tells at each.
+-- The rights in a tag's word: the tests that they have to pass at their tag, and what rights tell that pass them.
 use mathlib.Core.Bool.{Bool, true, false, cond}
 use mathlib.Core.List.{List, [], _∷_}
 use mathlib.Core.Path.{_≡_, refl}
-use Prim.Native.Nat.{ℕ, _<_, _/_, _+_, _%_, _*_, _^_}
+use Prim.Native.Nat.{ℕ, _/_, _+_}
 use lib.Dec.{T, eqb, leb, eqb→eq}
-use lib.ListN.{getD, replicate}
-use Rattle.code.proofs.Packed.{packed-at}
-use Rattle.code.proofs.Table.{each}
 use Rattle.code.specs.Layout.{among, tagAt, indexAt}
 use Rattle.code.specs.Tags.{IS-SHARED, MAKE-FN-PTR, LOAD-THIS, LOAD-THIS-SHARED, REQUIRE-THIS, ASSIGN-THIS, CURRY, CALL-FN-PTR, CALL-FN-PTR-CAPTURE, CALL-FN-PTR-METHOD, CALL-FN-PTR-ON-THIS, SHARE, SHARE-NAMED, ASSIGN-THIS-OP, MAKE-CLOSURE, LOAD-NAMED, CHAIN, MAKE-ARRAY, MAKE-MAP, CUSTOM-SYNTAX, IMPORT, CALL, CALL-THIS-REF, CALL-FN-PTR-ON-LOCAL, CALL-FN-PTR-ON-NAMED, EXPORT-LOCAL, EXPORT-NAMED, CALL-OP, CALL-LOCAL-REF, CALL-NAMED-REF}
 use Rattle.pools.specs.Pools.{chainAt}
-use Rattle.rules.specs.Asks.{asking, Asks}
-use Rattle.rules.specs.Packed.{asks}
+use Rattle.rules.specs.Asks.{qualifiable, asking, Asks}
 use Rattle.rules.specs.Rights.{THIS, FN-PTR, CURRYING, SHARING, ARRAY, MAP, SYNTAX, EXPORT, IMPORTING, ofName, ofChain, required}
-use Rattle.rules.specs.There.{qualifiable}
 use Rattle.rules.proofs.Tests.{same, same→eq, all, pass}
 
 abbrev named : ℕ
@@ -58,33 +53,14 @@ tests tag word =
     ∷ eqb word (asked tag)
     ∷ []
 
-fits-tag : ℕ → ℕ → Bool
+unfoldable pub rightly : ℕ → ℕ → Bool
 unfolding tests
-fits-tag tag word = all (tests tag word)
+rightly tag word = all (tests tag word)
 
-told : (tag word : ℕ) → T (fits-tag tag word) → Asks tag word
-unfolding fits-tag
-told tag word t = record {
+pub rights-told : (tag word : ℕ) → T (rightly tag word) → Asks tag word
+unfolding rightly
+rights-told tag word t = record {
   by-name = same→eq _ _ (pass 0 (tests tag word) t);
   by-chain = same→eq _ _ (pass 1 (tests tag word) t);
   needed = λ code names chains steps p e. rw (eqb→eq word (asked tag) (pass 2 (tests tag word) t), ← e) (asked-needed code names chains steps p);
 }
-
--- the entries of the code's table, one by one
-abbrev pub words : List ℕ
-words =
-    0 ∷ 0x0000 ∷ 0x0000 ∷ 0x0000 ∷ 0x0000 ∷ 0x0000 ∷ 0x0000 ∷ 0x0000 ∷ 0x0000 ∷ 0x0000 ∷ 0x0000 ∷ 0x0000 ∷ 0x0000 ∷ 0x0000 ∷ 0x0000 ∷ 0x0080 ∷
-    0x0020 ∷ 0x0002 ∷ 0x0002 ∷ 0x0002 ∷ 0x0002 ∷ 0x0000 ∷ 0x0060 ∷ 0x0020 ∷ 0x0020 ∷ 0x0020 ∷ 0x0020 ∷ 0x0000 ∷ 0x0000 ∷ 0x0080 ∷ 0x0080 ∷ 0x0000 ∷
-    0x0000 ∷ 0x0000 ∷ 0x0002 ∷ 0x0020 ∷ 0x0000 ∷ 0x0000 ∷ 0x4000 ∷ 0x0000 ∷ 0x0000 ∷ 0x0000 ∷ 0x0000 ∷ 0x0000 ∷ 0x8000 ∷ 0x0100 ∷ 0x0200 ∷ 0x0000 ∷
-    0x0000 ∷ 0x0000 ∷ 0x0400 ∷ 0x0000 ∷ 0x4000 ∷ 0x4002 ∷ 0x0020 ∷ 0x0020 ∷ 0x0000 ∷ 0x0000 ∷ 0x0000 ∷ 0x0000 ∷ 0x0000 ∷ 0x0000 ∷ 0x0800 ∷ 0x0800 ∷
-    0x0000 ∷ 0x0000 ∷ 0x4000 ∷ 0x4000 ∷ 0x4000 ∷ 0x0000 ∷ 0x0000 ∷ 0x0000 ∷ 0 ∷ 0 ∷ 0 ∷ 0 ∷ 0 ∷ 0 ∷ 0 ∷ 0x1000 ∷
-    replicate 176 0
-
--- each passes at its tag
-pub asks-at : (tag : ℕ) → tag < 256 → Asks tag (getD words tag 0)
-unfolding fits-tag
-asks-at tag h = told tag (getD words tag 0) (each fits-tag words tt tag h)
-
--- and so does what is looked up in the number of its group
-pub asks-packed : {number : ℕ} (tag : ℕ) → tag < 256 → number ≡ getD asks (tag / 4) 0 → Asks tag (number / 2 ^ (tag % 4 * 16) % 65536)
-asks-packed tag h e = rw (e, packed-at 4 16 asks words tt tag h) (asks-at tag h)

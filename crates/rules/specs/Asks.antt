@@ -1,16 +1,19 @@
--- What the word that the crate keeps of a tag's rights says: the rights that it needs whatever its operands are, and above
+-- What the part of a tag's word that is about rights says: the rights that it needs whatever its operands are, and above
 -- them, from 16384 on, what else decides: 0 nothing, 1 the flag of a name, 2 a chain.
 use mathlib.Core.Bool.{cond}
-use mathlib.Core.List.{List}
+use mathlib.Core.List.{List, [], _∷_}
 use mathlib.Core.Path.{_≡_}
 use Prim.Native.Nat.{ℕ, _/_, _%_}
 use lib.Bits.{bitOr}
 use lib.Dec.{eqb, leb}
 use Rattle.code.specs.Layout.{among, tagAt, indexAt}
-use Rattle.code.specs.Tags.{CHAIN}
+use Rattle.code.specs.Tags.{LOAD-NAMED, CHAIN, CALL, CALL-THIS-REF, CALL-OP, CALL-LOCAL-REF, CALL-NAMED-REF}
 use Rattle.pools.specs.Pools.{chainAt}
 use Rattle.rules.specs.Rights.{ofName, ofChain, required}
-use Rattle.rules.specs.There.{qualifiable}
+
+-- the tags whose rights go by the flag of a name
+abbrev pub qualifiable : List ℕ
+qualifiable = LOAD-NAMED ∷ CALL ∷ CALL-OP ∷ CALL-LOCAL-REF ∷ CALL-NAMED-REF ∷ CALL-THIS-REF ∷ []
 
 -- what a word asks for, where the name and the chain ask for these
 unfoldable pub asking : (word name chain : ℕ) → ℕ

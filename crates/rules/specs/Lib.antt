@@ -13,8 +13,7 @@ pub mod Machine
 pub mod Walk
 pub mod Rule
 pub mod Chunk
+pub mod Asks
 pub mod Shapes
 pub mod There
 pub mod Acts
-pub mod Asks
-pub mod Packed

@@ -1,6 +1,6 @@
 -- What the word that the crate keeps for a tag says of it, digit by digit. The digits of base 16, the lowest first: what an
--- instruction needs and what it pops, each so many and 4 more for each of its count n; what it pushes; where n stands; and
--- its flow.
+-- instruction needs and what it pops, each so many and 4 more for each of its count n; what it pushes; its width; where n
+-- stands; its flow; and in four more its rights.
 use mathlib.Core.Bool.{_&&_, cond}
 use mathlib.Core.List.{List, [], _∷_}
 use mathlib.Core.Path.{_≡_}
@@ -9,6 +9,8 @@ use lib.Dec.{eqb, leb, ltb}
 use Rattle.code.specs.Layout.{Field, target, count8, count16, slot, index, layout, among}
 use Rattle.code.specs.Tags.{ITER-INIT, ITER-DROP, POP-HANDLER, SWITCH}
 use Rattle.code.specs.Tags.{iterNexts, pushHandlers}
+use Rattle.code.specs.Width.{widthOf}
+use Rattle.rules.specs.Asks.{Asks}
 use Rattle.rules.specs.Edges.{jumping, falls, plain}
 use Rattle.rules.specs.Effects.{effect}
 use Rattle.rules.specs.Paths.{iteratorsNeeded, handlersNeeded}
@@ -44,5 +46,7 @@ pub record Shape (tag word : ℕ) : Type 0 where
   pub pops-fixed : word / 16 % 4 ≡ effect tag .pops .fixed
   pub pops-perN : word / 64 % 4 ≡ effect tag .pops .perN
   pub pushes : word / 256 % 16 ≡ effect tag .pushes
-  pub place : word / 4096 % 16 ≡ placeFrom (layout tag) 1
-  pub flow : Flow tag (word / 65536)
+  pub width : word / 4096 % 16 ≡ widthOf tag
+  pub place : word / 65536 % 16 ≡ placeFrom (layout tag) 1
+  pub flow : Flow tag (word / 1048576 % 16)
+  pub rights : Asks tag (word / 16777216 % 65536)

@@ -2,14 +2,15 @@
 -- iterators and handlers that it needs. The checks of tables and indices that come before any walk establish the entries at
 -- every start of the code.
 use mathlib.Core.Bool.{true}
-use mathlib.Core.List.{List, [], _∷_}
+use mathlib.Core.List.{List}
 use mathlib.Core.Path.{_≡_}
 use Prim.Native.Nat.{ℕ, _+_, _^_, _≤_, _<_}
 use lib.ListN.{length}
 use Rattle.code.specs.Layout.{among, tagAt, indexAt}
-use Rattle.code.specs.Tags.{LOAD-NAMED, CHAIN, SWITCH, CALL, CALL-THIS-REF, CALL-OP, CALL-LOCAL-REF, CALL-NAMED-REF}
+use Rattle.code.specs.Tags.{CHAIN, SWITCH}
 use Rattle.pools.specs.Pools.{whole, chainAt, switchAt}
 use Rattle.rules.specs.declared.Depths.{Depths}
+use Rattle.rules.specs.Asks.{qualifiable}
 use Rattle.rules.specs.Paths.{iteratorsNeeded, handlersNeeded}
 use Rattle.rules.specs.Shapes.{Flow}
 
@@ -23,10 +24,6 @@ pub record SwitchWhole (switches cases ranges : List ℕ) (i : ℕ) : Type 0 whe
   pub entry : i < whole 5 switches
   pub cases-within : switchAt switches i .firstCase + switchAt switches i .cases ≤ whole 2 cases
   pub ranges-within : switchAt switches i .firstRange + switchAt switches i .ranges ≤ length ranges
-
--- the tags whose rights go by the flag of a name
-abbrev pub qualifiable : List ℕ
-qualifiable = LOAD-NAMED ∷ CALL ∷ CALL-OP ∷ CALL-LOCAL-REF ∷ CALL-NAMED-REF ∷ CALL-THIS-REF ∷ []
 
 -- of the instruction at a place: the name, the chain or the switch that it names
 pub record NameThere (code names : List ℕ) (p : ℕ) : Type 0 where

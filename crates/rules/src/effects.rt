@@ -1,6 +1,7 @@
 // What an instruction does to the operands: document 01's table of needs, pops and pushes.
+ghost use mathlib.Core.List.{List};
 ghost use mathlib.Core.Path.{_≡_};
-ghost use Prim.Native.Nat.{_<_};
+ghost use Prim.Native.Nat.{ℕ, _+_, _*_, _/_, _%_, _<_};
 ghost use Rattle.code.specs.Layout.{tagAt, countAt};
 ghost use Rattle.code.specs.Width.{widthAt};
 ghost use Rattle.rules.specs.Acts.{Acts};
@@ -11,12 +12,12 @@ use code::tag;
 use pools::CHAIN_WORDS;
 
 // The count n among an instruction's operands, 0 where it has none.
-fn count_at(word: u32, code: &[u8], at: usize) -> u16
+fn count_at(word: u64, code: &[u8], at: usize) -> u16
     requires { ⌜ Shape (tagAt (now code) at) word ⌝ }
     requires { ⌜ 0 < widthAt (now code) at ⌝ }
     ensures { λ r. ⌜ r ≡ countAt (now (code .entry)) at ⌝ }
 {
-    let place = (word / 0x1000 % 16) as usize;
+    let place = (word / 0x1_0000 % 16) as usize;
     if place == 0 {
         return 0;
     }
@@ -26,8 +27,27 @@ fn count_at(word: u32, code: &[u8], at: usize) -> u16
     code::read_u16(code, at + (place - 8))
 }
 
+// What a tag's word says of an instruction with the count n.
+fn counted(word: u64, n: u16) -> Effect
+    ensures { λ r. ⌜ r ≡ record { needs = word % 4 + word / 4 % 4 * n; pops = word / 16 % 4 + word / 64 % 4 * n; pushes = word / 256 % 16 } ⌝ }
+{
+    let times = n as u32;
+    Effect {
+        needs: (word % 4) as u32 + (word / 4 % 4) as u32 * times,
+        pops: (word / 16 % 4) as u32 + (word / 64 % 4) as u32 * times,
+        pushes: (word / 256 % 16) as u32,
+    }
+}
+
+// The effect of an instruction with a simple word.
+pub fn fixed_effect(word: u64) -> Effect
+    ensures { λ r. ⌜ ((code chains : List ℕ) (at : ℕ) → Shape (tagAt code at) word → word < 65536 → 0 < widthAt code at → Acts code chains at r) ⌝ }
+{
+    counted(word, 0)
+}
+
 // How many operands the instruction at an offset needs, pops and pushes. The word is that of its tag.
-pub fn effect(word: u32, code: &[u8], at: usize, chains: &[u32]) -> Effect
+pub fn effect(word: u64, code: &[u8], at: usize, chains: &[u32]) -> Effect
     requires { ⌜ Shape (tagAt (now code) at) word ⌝ }
     requires { ⌜ 0 < widthAt (now code) at ⌝ }
     requires { ⌜ ChainEntry (now code) (now chains) at ⌝ }
@@ -43,10 +63,5 @@ pub fn effect(word: u32, code: &[u8], at: usize, chains: &[u32]) -> Effect
             pushes: 1,
         };
     }
-    let n = count_at(word, code, at) as u32;
-    Effect {
-        needs: word % 4 + word / 4 % 4 * n,
-        pops: word / 16 % 4 + word / 64 % 4 * n,
-        pushes: word / 256 % 16,
-    }
+    counted(word, count_at(word, code, at))
 }

@@ -2,11 +2,14 @@
 ghost use mathlib.Core.Path.{_≡_};
 ghost use Prim.Native.Nat.{_+_, _≤_, _<_};
 ghost use lib.ListN.{length};
+ghost use Rattle.code.specs.Layout.{tagAt};
 ghost use Rattle.code.specs.Width.{widthAt};
 ghost use Rattle.pools.specs.Pools.{whole, chainAt, stepAt, entries};
 ghost use Rattle.rules.specs.Rights.{ofName, ofStep, ofSteps, ofChain, required, lacking};
+ghost use Rattle.rules.specs.Shapes.{Shape};
 ghost use Rattle.rules.specs.There.{NameThere, ChainWhole, ChainThere};
 use crate::caps;
+use crate::shapes;
 use pools::CHAIN_WORDS;
 use pools::STEP_WORDS;
 
@@ -64,21 +67,29 @@ fn chain_caps(chains: &[u32], steps: &[u32], i: usize) -> u32
     }
 }
 
-// The rights that the instruction at an offset needs.
-pub fn required_caps(code: &[u8], at: usize, names: &[u8], chains: &[u32], steps: &[u32]) -> u32
+// The rights that the instruction at an offset needs. The word is that of its tag.
+pub fn required_caps(
+    word: u64,
+    code: &[u8],
+    at: usize,
+    names: &[u8],
+    chains: &[u32],
+    steps: &[u32],
+) -> u32
+    requires { ⌜ Shape (tagAt (now code) at) word ⌝ }
     requires { ⌜ 0 < widthAt (now code) at ⌝ }
     requires { ⌜ NameThere (now code) (now names) at ⌝ }
     requires { ⌜ ChainThere (now code) (now chains) (now steps) at ⌝ }
     ensures { λ r. ⌜ r ≡ required (now (code .entry)) (now (names .entry)) (now (chains .entry)) (now (steps .entry)) at ⌝ }
 {
-    let word = caps::asks_of(code[at]);
-    let decides = word / caps::NAMED;
+    let asked = shapes::asks_of(word);
+    let decides = asked / caps::NAMED;
     if decides == 0 {
-        return word;
+        return asked;
     }
     let i = code::read_u16(code, at + 1) as usize;
     if decides == 1 {
-        return word % caps::NAMED | name_caps(names, i);
+        return asked % caps::NAMED | name_caps(names, i);
     }
     chain_caps(chains, steps, i)
 }

@@ -24,7 +24,8 @@ use Rattle.rules.specs.Paths.{iteratorsNeeded, handlersNeeded}
 use Rattle.rules.specs.Rights.{required, lacking}
 use Rattle.rules.specs.Rule.{rule}
 use Rattle.rules.specs.Script.{Script, Span, tagOf}
-use Rattle.rules.specs.There.{Held}
+use Rattle.rules.specs.Shapes.{Flow}
+use Rattle.rules.specs.There.{HeldBy}
 use Rattle.rules.proofs.Amounts.{pops-within-needs, pushes-at-most-one}
 use Rattle.rules.proofs.Lists.{zero≢one}
 use Rattle.rules.proofs.Says as says
@@ -33,7 +34,7 @@ use Rattle.rules.specs.declared.Outcome.the-variants.{Passed, Refused}
 use Rattle.ruling.specs.declared.Ruling.{Ruling}
 use Rattle.ruling.specs.declared.Ruling.the-variants.{Denies, Gives}
 use Rattle.rules.specs.Answer.{told}
-use Rattle.ruling.specs.Ruling.{needsTest, edgesFrom, leaving, answers, edgesOf, ruled}
+use Rattle.ruling.specs.Ruling.{needsTest, edgesFrom, leaving, unless, Settles, settled, answers, edgesOf, ruled}
 
 -- ---- what an instruction needs
 
@@ -114,16 +115,32 @@ module _ (tag pops pushes next end : ℕ) (d : Depths) {plainly : Bool} (e : pla
       by (inr h) = rw (lt-leb end next h) (either (plain tag))
 
 -- what the way on asks of an instruction that has its depths
-module _ {code chains : List ℕ} {at : ℕ} {effect : Effect} (wide : 0 < widthAt code at) (acts : Acts code chains at effect)
-    {d : Depths} (there : Enough (tagAt code at) (effect .needs) d) where
-  pub held : d .iterators + 1 < 2 ^ 32 → d .handlers + 1 < 2 ^ 32 → Held (tagAt code at) d
-  held i h = record { iterators = there .iterators; handlers = there .handlers; iterators-fit = i; handlers-fit = h }
+module _ {flow : ℕ} {effect : Effect} {d : Depths} (S : Settles flow effect d) (there : Enough (S .tag) (effect .needs) d) where
+  pub held-by : HeldBy flow d
+  held-by = record {
+    tag = S .tag;
+    flows = S .flows;
+    held = record { iterators = there .iterators; handlers = there .handlers; iterators-fit = S .iterators-fit; handlers-fit = S .handlers-fit };
+  }
 
   pub pops-there : effect .pops ≤ d .operands
-  pops-there = omega (arith, acts .needed, acts .popped, there .operands, pops-within-needs code chains at wide)
+  pops-there = omega (arith, S .pops-needed, there .operands)
 
-  pub pushes-fit : d .operands + 1 < 2 ^ 32 → d .operands - effect .pops + effect .pushes < 2 ^ 32
-  pushes-fit h = omega (arith, acts .pushed, pushes-at-most-one code chains at wide)
+  pub pushes-fit : d .operands - effect .pops + effect .pushes < 2 ^ 32
+  pushes-fit = omega (arith, S .pushes-one, S .operands-fit)
+
+-- an instruction that has its width is such
+pub settles : {code chains : List ℕ} {at flow : ℕ} {effect : Effect} {d : Depths} → 0 < widthAt code at → Flow (tagAt code at) flow → Acts code chains at effect
+    → d .operands + 1 < 2 ^ 32 → d .iterators + 1 < 2 ^ 32 → d .handlers + 1 < 2 ^ 32 → Settles flow effect d
+settles {code} {chains} {at} wide f acts o i h = record {
+  tag = tagAt code at;
+  flows = f;
+  pops-needed = omega (arith, acts .needed, acts .popped, pops-within-needs code chains at wide);
+  pushes-one = omega (arith, acts .pushed, pushes-at-most-one code chains at wide);
+  operands-fit = o;
+  iterators-fit = i;
+  handlers-fit = h;
+}
 
 -- the place after an instruction that has its width
 pub next-within : (code : List ℕ) (at : ℕ) → 0 < widthAt code at → {w : ℕ} → w ≡ widthOf (tagAt code at) → at + w ≤ length code
@@ -131,17 +148,12 @@ next-within code at wide e = omega (arith, width-there widthOf code at wide .tag
 
 -- ---- the rule
 
--- a test decides: a denial, or what else the rule says
-unfoldable unless : Option Answer → Ruling → Ruling
-unless none ruling = ruling
-unless (some answer) ruling = Denies answer
-
-stops : {r : Outcome} {answer : Answer} {test : Option Answer} (rest : Ruling) → told r ≡ test → r ≡ Refused answer
+pub stops : {r : Outcome} {answer : Answer} {test : Option Answer} (rest : Ruling) → told r ≡ test → r ≡ Refused answer
     → Denies answer ≡ unless test rest
 unfolding told unless
 stops rest e p = rw (← e, p)
 
-goes-on : {r : Outcome} {test : Option Answer} (rest : Ruling) → told r ≡ test → r ≡ Passed → rest ≡ unless test rest
+pub goes-on : {r : Outcome} {test : Option Answer} (rest : Ruling) → told r ≡ test → r ≡ Passed → rest ≡ unless test rest
 unfolding told unless
 goes-on rest e p = rw (← e, p)
 
@@ -176,21 +188,12 @@ module _ (S : Script) (span : Span) (p : ℕ) (d : Depths) where
       go false false false false true = refl
       go false false false false false = refl
 
-  -- so it says what the code says, at each way out of the code
-  module _ {needed missing : ℕ} {effect : Effect}
-      (asks : needed ≡ required (S .code) (S .pools .names) (S .pools .chains) (S .pools .steps) p) (lacks : missing ≡ lacking needed (S .rights))
-      (acts : Acts (S .code) (S .pools .chains) p effect) where
-    same-test : {test : Option Answer} → test ≡ needsTest missing (tagOf S p) (effect .needs) p d
-        → test ≡ needsTest (says.lacks S span p d) (tagOf S p) (says.need S span p d) p d
-    same-test tested = rw (lacks, asks, acts .needed) at tested
-
-    module _ {able : Outcome} (tested : told able ≡ needsTest missing (tagOf S p) (effect .needs) p d) where
-      pub without-needs : {answer : Answer} → able ≡ Refused answer → Denies answer ≡ ruled S span p d
-      without-needs refused = stops rest (same-test tested) refused ∙ sym in-order
-
-      pub with-needs : able ≡ Passed → 0 < widthAt (S .code) p → {w : ℕ} → w ≡ widthOf (tagOf S p)
-          → {r : Ruling} → r ≡ leaving (tagOf S p) (effect .pops) (effect .pushes) (p + w) (span .end) d → r ≡ ruled S span p d
-      unfolding next
-      with-needs passed wide {w} e q =
-          let width : w ≡ widthAt (S .code) p = e ∙ sym (width-there widthOf (S .code) p wide .tag) in
-          rw (acts .popped, acts .pushed, width) at q ∙ goes-on rest (same-test tested) passed ∙ sym in-order
+  -- so it says what the code settles
+  pub rule-settled : {missing w : ℕ} {effect : Effect}
+      → missing ≡ lacking (required (S .code) (S .pools .names) (S .pools .chains) (S .pools .steps) p) (S .rights)
+      → Acts (S .code) (S .pools .chains) p effect → 0 < widthAt (S .code) p → w ≡ widthOf (tagOf S p)
+      → {r : Ruling} → r ≡ settled missing (tagOf S p) effect p (p + w) (span .end) d → r ≡ ruled S span p d
+  unfolding next
+  rule-settled {missing} {w} lacks acts wide e q =
+      let width : w ≡ widthAt (S .code) p = e ∙ sym (width-there widthOf (S .code) p wide .tag) in
+      rw (lacks, acts .needed, acts .popped, acts .pushed, width) at q ∙ sym in-order

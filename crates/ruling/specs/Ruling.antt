@@ -4,16 +4,18 @@
 -- last. ITER_NEXT* tests 15 before its target [...]. A plain instruction whose successor is not before the end gives 13."
 use mathlib.Core.Bool.{_&&_, cond}
 use mathlib.Core.Option.{Option, none, some}
-use Prim.Native.Nat.{ℕ}
+use Prim.Native.Nat.{ℕ, _+_, _^_, _≤_, _<_}
 use lib.Dec.{ltb, leb}
 use Rattle.rules.specs.declared.Answer.{Answer}
 use Rattle.rules.specs.declared.Answer.the-variants.{MissingCaps, Underflow, FallsOffTheEnd, IteratorUnderflow, HandlerUnderflow}
 use Rattle.rules.specs.declared.Depths.{Depths}
+use Rattle.rules.specs.declared.Effect.{Effect}
 use Rattle.rules.specs.Edges.{falls, plain, afterOf, jumpedOf, after, jumped, next}
 use Rattle.rules.specs.Machine as machine
 use Rattle.rules.specs.Paths.{iteratorsNeeded, handlersNeeded}
 use Rattle.rules.specs.Rule.{rule}
 use Rattle.rules.specs.Script.{Script, Span, tagOf}
+use Rattle.rules.specs.Shapes.{Flow}
 use Rattle.ruling.specs.declared.Edges.{Edges}
 use Rattle.ruling.specs.declared.Ruling.{Ruling}
 use Rattle.ruling.specs.declared.Ruling.the-variants.{Denies, Gives}
@@ -40,6 +42,27 @@ edgesFrom tag pops pushes next d = record {
 -- 13 where it is plain and the place after it is not before the end; else the edges
 unfoldable pub leaving : (tag pops pushes next end : ℕ) → Depths → Ruling
 leaving tag pops pushes next end d = cond (plain tag && leb end next) (Denies FallsOffTheEnd) (Gives (edgesFrom tag pops pushes next d))
+
+-- a test decides: a denial, or what else there is to say
+unfoldable pub unless : Option Answer → Ruling → Ruling
+unless none ruling = ruling
+unless (some answer) ruling = Denies answer
+
+-- both in their order, of an instruction of a tag with this effect
+abbrev pub settled : (lacks tag : ℕ) → Effect → (at next end : ℕ) → Depths → Ruling
+settled lacks tag effect at next end d =
+    unless (needsTest lacks tag (effect .needs) at d) (leaving tag (effect .pops) (effect .pushes) next end d)
+
+-- what settling builds on: a tag of this flow, an effect that pops what is needed at most and pushes one at most, and depths of
+-- which one more fits a word of 32 bits
+pub record Settles (flow : ℕ) (effect : Effect) (d : Depths) : Type 0 where
+  pub tag : ℕ
+  pub flows : Flow tag flow
+  pub pops-needed : effect .pops ≤ effect .needs
+  pub pushes-one : effect .pushes ≤ 1
+  pub operands-fit : d .operands + 1 < 2 ^ 32
+  pub iterators-fit : d .iterators + 1 < 2 ^ 32
+  pub handlers-fit : d .handlers + 1 < 2 ^ 32
 
 -- ---- the rule's answer
 

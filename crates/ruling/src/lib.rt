@@ -20,7 +20,7 @@ ghost use Rattle.rules.specs.There.{NameThere, ChainThere, SwitchThere, HeldBy}
 ghost use Rattle.rules.specs.Walk.{firstBad};
 ghost use Rattle.rules.specs.Answer.{told};
 ghost use Rattle.rules.specs.Script.{script};
-ghost use Rattle.ruling.specs.Ruling.{needsTest, leaving, ruled};
+ghost use Rattle.ruling.specs.Ruling.{needsTest, leaving, Settles, settled, ruled};
 use rules::Answer;
 use rules::Depths;
 use rules::Effect;
@@ -90,9 +90,29 @@ fn leave(flow: u32, effect: Effect, next: u32, end: u32, d: Depths) -> Ruling
     })
 }
 
+// The tests in their order, and then the edges, of an instruction that lacks so much of its rights.
+fn settle(
+    missing: u32,
+    flow: u32,
+    effect: Effect,
+    at: usize,
+    next: u32,
+    end: u32,
+    d: Depths,
+) -> Ruling
+    requires { ⌜ Settles flow effect d ⌝ }
+    ensures { λ r. ⌜ ((tag : ℕ) → Flow tag flow → r ≡ settled missing tag effect at next end d) ⌝ }
+{
+    let able = check_needs(missing, flow, effect.needs, at, d);
+    if let Outcome::Refused(answer) = able {
+        return Ruling::Denies(answer);
+    }
+    leave(flow, effect, next, end, d)
+}
+
 // The rule of the instruction at an offset, in a chunk with this end. The word is that of its tag.
 pub fn rule_of(
-    word: u32,
+    word: u64,
     rights: u32,
     names: &[u8],
     chains: &[u32],
@@ -115,16 +135,17 @@ pub fn rule_of(
         (script rights (now (names .entry)) (now (chains .entry)) (now (steps .entry)) switches cases ranges (now (code .entry)))
         (record { entry = entry; end = end; declared = declared }) at d) ⌝ }
 {
-    let needed = rules::rights::required_caps(code, at, names, chains, steps);
+    let next = (at + rules::shapes::width_in(word)) as u32;
+    // Most instructions are simple: nothing of them is looked up but the word.
+    if rules::shapes::is_simple(word) {
+        let effect = rules::effects::fixed_effect(word);
+        return settle(0, 0, effect, at, next, end, d);
+    }
+    let needed = rules::rights::required_caps(word, code, at, names, chains, steps);
     let missing = rules::rights::lacking(needed, rights);
     let effect = rules::effects::effect(word, code, at, chains);
     let flow = rules::shapes::flow_of(word);
-    let able = check_needs(missing, flow, effect.needs, at, d);
-    if let Outcome::Refused(answer) = able {
-        return Ruling::Denies(answer);
-    }
-    let next = (at + code::width_of(code[at])) as u32;
-    leave(flow, effect, next, end, d)
+    settle(missing, flow, effect, at, next, end, d)
 }
 
 // Does a target lie outside of a chunk?

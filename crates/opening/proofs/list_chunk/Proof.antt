@@ -51,39 +51,46 @@ module _ (c : tie.In-loop Inv-loop μ-loop) where
       → Wide widthOf (now (start (c .before) .args .code)) (c .before .loop .at) w
   as-wide w e = let there = width-there widthOf _ _ wide in rw (e ∙ sym (there .tag)) there
 
+word-at-requires : tie.Need-word-at-requires Inv-loop μ-loop
+word-at-requires c κs = wide c
+
 list-instruction-requires : tie.Need-list-instruction-requires Inv-loop μ-loop
 list-instruction-requires c κs =
-    let p = c .before .before in
+    let turned = c .before .before in
+    let p = turned .before in
     let k = p .loop .inv in (
-      wide (c .before),
+      c .before .word-at .ensures,
       (
-        start p .pre .0 .switch-there _ (starts-there (c .before)),
+        wide turned,
         (
-          omega (arith, k .stored, k .fits, kept-length _ _ _ _ _ _ _ k),
-          (omega (arith, k .few-targets, few (c .before), low (c .before)), omega (arith, k .few-edges, few (c .before), low (c .before))),
+          start p .pre .0 .switch-there _ (starts-there turned),
+          (
+            omega (arith, k .stored, k .fits, kept-length _ _ _ _ _ _ _ k),
+            (omega (arith, k .few-targets, few turned, low turned), omega (arith, k .few-edges, few turned, low turned)),
+          ),
         ),
       ),
     )
 
-shared-slice-read-width-of : tie.Need-shared-slice-read-width-of Inv-loop μ-loop
-shared-slice-read-width-of c = width-there widthOf _ _ (wide (c .before .before .before .before .before)) .byte
+width-in-requires : tie.Need-width-in-requires Inv-loop μ-loop
+width-in-requires c κs = search needs
 
-width-of-requires : tie.Need-width-of-requires Inv-loop μ-loop
-width-of-requires c κs = search needs
-
-abbrev turn : tie.After-width-of Inv-loop μ-loop → tie.In-loop Inv-loop μ-loop
+abbrev turn : tie.After-width-in Inv-loop μ-loop → tie.In-loop Inv-loop μ-loop
 turn c = c .before .before .before .before .before .before
 
+told : (c : tie.After-width-in Inv-loop μ-loop) → c .width-in .result ≡ widthOf (getD (now (start (turn c .before) .args .code)) (turn c .before .loop .at) 0)
+told c = c .width-in .ensures _ (c .before .before .before .before .before .word-at .ensures)
+
 add-at : tie.Need-add-at Inv-loop μ-loop
-add-at c = let w = as-wide (turn c) _ (c .width-of .ensures) in omega (arith, w .within, start (turn c .before) .pre .0 .small)
+add-at c = let w = as-wide (turn c) _ (told c) in omega (arith, w .within, start (turn c .before) .pre .0 .small)
 
 loop-less : tie.Need-loop-less Inv-loop μ-loop
-loop-less c = let w = as-wide (turn c) _ (c .width-of .ensures) in omega (arith, w .some, turn c .loop-test .taken)
+loop-less c = let w = as-wide (turn c) _ (told c) in omega (arith, w .some, turn c .loop-test .taken)
 
 loop-again : tie.Need-loop-again Inv-loop μ-loop
 loop-again c =
     let p = turn c .before in
-    next-kept _ _ _ _ (start p .pre .0) (start p .pre .1 .0) _ _ (p .loop .inv) (turn c .loop-test .taken) (c .before .before .before .before .list-instruction .ensures) (c .width-of .ensures)
+    next-kept _ _ _ _ (start p .pre .0) (start p .pre .1 .0) _ _ (p .loop .inv) (turn c .loop-test .taken) (c .before .before .before .list-instruction .ensures) (told c)
 
 same-length : tie.Need-same-length Inv-loop μ-loop
 same-length c =
@@ -103,9 +110,9 @@ list-chunk-spec =
     μ-loop
     store-entry-requires
     loop-holds
+    word-at-requires
     list-instruction-requires
-    shared-slice-read-width-of
-    width-of-requires
+    width-in-requires
     add-at
     loop-less
     loop-again

@@ -15,25 +15,22 @@ use Rattle.opening.proofs.Storing.{at-most-one, listed-without, listed-
 use Rattle.opening.proofs.list_instruction.Statement.{statement}
 use Rattle.opening.proofs.list_instruction.Tie as tie
 
-word-at-requires : tie.Need-word-at-requires
-word-at-requires c κs = c .before .before .before .before .before .pre .0
-
 flow-of-requires : tie.Need-flow-of-requires
 flow-of-requires c κs = search needs
 
 -- the flow is that of the tag
 module _ (c : tie.After-flow-of) where
   abbrev start : tie.Start
-  start = c .before .before .before .before .before .before .before
+  start = c .before .before .before .before .before .before
 
   flows : Flow (tagAt (now (start .args .code)) (start .args .at)) (c .flow-of .result)
-  flows = c .flow-of .ensures _ (c .before .word-at .ensures)
+  flows = c .flow-of .ensures _ (start .pre .0)
 
   abbrev ts : List ℕ
   ts = targetsAt (now (start .args .code)) (now (start .args .switches)) (now (start .args .cases)) (now (start .args .ranges)) (start .args .at)
 
 target-count-requires : tie.Need-target-count-requires
-target-count-requires c κs = let pre = start c .pre in (flows c, (pre .0, switch-entry-of (pre .1 .0)))
+target-count-requires c κs = let pre = start c .pre in (flows c, (pre .1 .0, switch-entry-of (pre .1 .1 .0)))
 
 counted : (c : tie.After-target-count) → c .target-count .result ≡ length (ts (c .before))
 counted c = let args = start (c .before) .args in c .target-count .ensures .1 (now (args .cases)) (now (args .ranges))
@@ -61,7 +58,7 @@ add-t18 : tie.Need-add-t18
 add-t18 c = omega (arith, counted (c .before .before .before))
 
 add-t19 : tie.Need-add-t19
-add-t19 c = omega (arith, counted (c .before .before .before .before), one-more (c .before .before .before), start (c .before .before .before .before .before) .pre .1 .1 .1 .1)
+add-t19 c = omega (arith, counted (c .before .before .before .before), one-more (c .before .before .before), start (c .before .before .before .before .before) .pre .1 .1 .1 .1 .1)
 
 returns : tie.Need-returns
 returns c = listed-without _ _ _ _ _ _ (counted (c .before .before .before .before)) (edges-counted (c .before .before .before)) (omega (arith, counted (c .before .before .before .before), c .before .before .if1 .taken))
@@ -69,19 +66,19 @@ returns c = listed-without _ _ _ _ _ _ (counted (c .before .before .before .befo
 store-targets-requires : tie.Need-store-targets-requires
 store-targets-requires c κs =
     let pre = start (c .before .before .before .before) .pre in
-    (pre .0, (pre .1 .0, (counted (c .before .before .before), omega (arith, pre .1 .1 .0, c .before .if1 .left))))
+    (pre .1 .0, (pre .1 .1 .0, (counted (c .before .before .before), omega (arith, pre .1 .1 .1 .0, c .before .if1 .left))))
 
 add-t16 : tie.Need-add-t16
 add-t16 c = search needs
 
 add-t23 : tie.Need-add-t23
-add-t23 c = let p = c .before .before .before .before .before .before .before in omega (arith, counted (p .before), one-more p, start (p .before .before) .pre .1 .1 .1 .1)
+add-t23 c = let p = c .before .before .before .before .before .before .before in omega (arith, counted (p .before), one-more p, start (p .before .before) .pre .1 .1 .1 .1 .1)
 
 add-t15 : tie.Need-add-t15
 add-t15 c =
     let p = c .before .before .before .before .before .before .before in
     let first = start (p .before .before) in
-    omega (arith, counted (p .before), first .pre .1 .1 .0, first .good .1 .1 .1 .1 .1 .1 .0, c .before .before .before .before .before .before .if1 .left)
+    omega (arith, counted (p .before), first .pre .1 .1 .1 .0, first .good .1 .1 .1 .1 .1 .1 .1 .0, c .before .before .before .before .before .before .if1 .left)
 
 same-length : tie.Need-same-length
 same-length c = search needs
@@ -89,13 +86,12 @@ same-length c = search needs
 returns-2 : tie.Need-returns-2
 returns-2 c =
     let p = c .before .before .before .before .before .before .before in
-    listed-with _ _ _ _ _ _ (counted (p .before)) (edges-counted p) (omega (arith, counted (p .before), start (p .before .before) .pre .1 .1 .0, c .before .before .before .before .before .before .if1 .left)) (c .before .before .before .before .store-targets .ensures)
+    listed-with _ _ _ _ _ _ (counted (p .before)) (edges-counted p) (omega (arith, counted (p .before), start (p .before .before) .pre .1 .1 .1 .0, c .before .before .before .before .before .before .if1 .left)) (c .before .before .before .before .store-targets .ensures)
 
 pub list-instruction-spec : {M : Type 1} → statement M
 list-instruction-spec =
     tie.close
     (tie.spec
-    word-at-requires
     flow-of-requires
     target-count-requires
     edge-count-requires

@@ -25,15 +25,20 @@ There s =
 there : (c : tie.Else1) → There (c .before .before .before .before .before .before .before .before .before)
 there c = sym (c .before .is-there .ensures) ∙ not-false _ (c .if1 .left)
 
+word-at-requires : tie.Need-word-at-requires
+word-at-requires c κs = ready _ _ _ _ _ _ _ _ (there c) .wide
+
 required-caps-requires : tie.Need-required-caps-requires
-required-caps-requires c κs = let r = ready _ _ _ _ _ _ _ _ (there c) in (r .wide, (r .name-there, r .chain-there))
+required-caps-requires c κs =
+    let r = ready _ _ _ _ _ _ _ _ (there (c .before)) in
+    (c .word-at .ensures, (r .wide, (r .name-there, r .chain-there)))
 
 cast-t12 : tie.Need-cast-t12
 cast-t12 c = search needs
 
 returns-2 : tie.Need-returns-2
-returns-2 c = told-if _ _ (there (c .before)) (c .required-caps .ensures)
+returns-2 c = told-if _ _ (there (c .before .before)) (c .required-caps .ensures)
 
 pub probe-required-spec : {M : Type 1} → statement M
 probe-required-spec =
-    tie.close (tie.spec is-there-requires returns required-caps-requires cast-t12 returns-2)
+    tie.close (tie.spec is-there-requires returns word-at-requires required-caps-requires cast-t12 returns-2)

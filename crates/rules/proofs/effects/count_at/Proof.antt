@@ -8,14 +8,11 @@ use Rattle.rules.proofs.Operands.{tag-there}
 use Rattle.rules.proofs.effects.count_at.Statement.{statement}
 use Rattle.rules.proofs.effects.count_at.Tie as tie
 
-cast-place : tie.Need-cast-place
-cast-place c = search needs
-
 -- what the caller knows of the word
 abbrev start : tie.After-shared-slice-known → tie.Start
 start c = c .before
 
-placed : (c : tie.After-shared-slice-known) → Placed (start c .args .code .now) (start c .args .at) (start c .args .word / 4096 % 16)
+placed : (c : tie.After-shared-slice-known) → Placed (start c .args .code .now) (start c .args .at) (start c .args .word / 65536 % 16)
 placed c = record { wide = start c .pre .1; told = start c .pre .0 .place }
 
 returns : tie.Need-returns
@@ -32,7 +29,7 @@ shared-slice-read-result c = byte-there (placed (c .before .before .before)) (c 
 cast-result : tie.Need-cast-result
 cast-result c =
     let first = start (c .before .before .before) in
-    omega (arith, c .shared-slice-known2 .given (first .args .at + first .args .word / 4096 % 16))
+    omega (arith, c .shared-slice-known2 .given (first .args .at + first .args .word / 65536 % 16))
 
 returns-2 : tie.Need-returns-2
 returns-2 c = count-byte (placed (c .before .before .before)) (c .before .before .if1 .left) (c .before .if2 .taken)
@@ -51,7 +48,6 @@ pub count-at-spec : {M : Type 1} → statement M
 count-at-spec =
     tie.close
     (tie.spec
-    cast-place
     returns
     add-result
     shared-slice-read-result

@@ -50,28 +50,13 @@ returns c =
 count-at-requires : tie.Need-count-at-requires
 count-at-requires c κs = search needs
 
-cast-n : tie.Need-cast-n
-cast-n c = search needs
-
--- past the count
-abbrev word : tie.After-count-at → ℕ
-word c = c .before .before .before .before .before .args .word
-
-mul-t21 : tie.Need-mul-t21
-mul-t21 c = omega (arith, part-small (word c / 4) (c .count-at .result) (omega arith))
-
-add-t22 : tie.Need-add-t22
-add-t22 c = omega (arith, part-small (word c / 4) (c .count-at .result) (omega arith))
-
-mul-t27 : tie.Need-mul-t27
-mul-t27 c = omega (arith, part-small (word c / 64) (c .count-at .result) (omega arith))
-
-add-t28 : tie.Need-add-t28
-add-t28 c = omega (arith, part-small (word c / 64) (c .count-at .result) (omega arith))
+counted-requires : tie.Need-counted-requires
+counted-requires c κs = search needs
 
 returns-2 : tie.Need-returns-2
 returns-2 c =
-    word-acts _ _ _ (c .before .if1 .left) _ (c .before .before .before .before .before .pre .0) _ (c .count-at .ensures)
+    rw (c .counted .ensures)
+    (word-acts _ _ _ (c .before .before .if1 .left) _ (c .before .before .before .before .before .before .pre .0) _ (c .before .count-at .ensures))
 
 pub effect-spec : {M : Type 1} → statement M
 effect-spec =
@@ -87,9 +72,5 @@ effect-spec =
     shared-slice-read-k
     returns
     count-at-requires
-    cast-n
-    mul-t21
-    add-t22
-    mul-t27
-    add-t28
+    counted-requires
     returns-2)

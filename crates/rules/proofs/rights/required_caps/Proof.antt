@@ -6,24 +6,27 @@ use borrow.Author.Needs.{needs}
 use Rattle.pools.specs.Pools.{chainAt}
 use Rattle.rules.specs.Rights.{ofName, ofChain}
 use Rattle.rules.specs.There.{ChainWhole}
-use Rattle.rules.proofs.Operands.{tag-there}
 use Rattle.rules.proofs.Joined.{Asked, word-rights, index-decided, named-there, name-rights, chained-there, chain-rights}
 use Rattle.rules.proofs.rights.required_caps.Statement.{statement}
 use Rattle.rules.proofs.rights.required_caps.Tie as tie
 
-shared-slice-read-asks-of : tie.Need-shared-slice-read-asks-of
-shared-slice-read-asks-of c = tag-there _ _ (c .before .before .before .before .before .pre .0)
-
 asks-of-requires : tie.Need-asks-of-requires
 asks-of-requires c κs = search needs
 
+abbrev begun : tie.After-asks-of → tie.Start
+begun c = c .before .before .before .before .before
+
 asked : (c : tie.After-asks-of)
-    → Asked (c .before .before .before .before .before .before .args .code .now) (c .before .before .before .before .before .before .args .names .now)
-    (c .before .before .before .before .before .before .args .chains .now) (c .before .before .before .before .before .before .args .steps .now)
-    (c .before .before .before .before .before .before .args .at) (c .asks-of .result)
+    → Asked (begun c .args .code .now) (begun c .args .names .now) (begun c .args .chains .now) (begun c .args .steps .now)
+    (begun c .args .at) (c .asks-of .result)
 asked c =
-    let start = c .before .before .before .before .before .before in
-    record { wide = start .pre .0; asks = c .asks-of .ensures; name-there = start .pre .1 .0; chain-whole = start .pre .1 .1 }
+    let start = begun c in
+    record {
+      wide = start .pre .1 .0;
+      asks = c .asks-of .ensures _ (start .pre .0);
+      name-there = start .pre .1 .1 .0;
+      chain-whole = start .pre .1 .1 .1;
+    }
 
 returns : tie.Need-returns
 returns c = word-rights (asked (c .before)) (c .if1 .taken)
@@ -42,19 +45,19 @@ name-caps-requires c κs = omega (arith, c .before .read-u16 .ensures, named-the
 
 returns-2 : tie.Need-returns-2
 returns-2 c =
-    let start = c .before .before .before .before .before .before .before .before .before .before in
+    let start = begun (c .before .before .before .before) in
     name-rights (asked (c .before .before .before .before)) (c .before .if2 .taken) _
     (c .name-caps .ensures ∙ ap (λ (i : ℕ). ofName (start .args .names .now) i) (c .before .before .read-u16 .ensures))
 
 chain-caps-requires : tie.Need-chain-caps-requires
 chain-caps-requires c κs =
-    let start = c .before .before .before .before .before .before .before .before .before in
+    let start = begun (c .before .before .before) in
     subst (λ (i : ℕ). ChainWhole (start .args .chains .now) (start .args .steps .now) i) (sym (c .before .read-u16 .ensures))
     (chained-there (asked (c .before .before .before)) (c .before .before .if1 .left) (c .if2 .left))
 
 returns-3 : tie.Need-returns-3
 returns-3 c =
-    let start = c .before .before .before .before .before .before .before .before .before .before in
+    let start = begun (c .before .before .before .before) in
     chain-rights (asked (c .before .before .before .before)) (c .before .before .before .if1 .left) (c .before .if2 .left) _
     (c .chain-caps .ensures ∙ ap (λ (i : ℕ). ofChain (start .args .steps .now) (chainAt (start .args .chains .now) i)) (c .before .before .read-u16 .ensures))
 
@@ -62,7 +65,6 @@ pub required-caps-spec : {M : Type 1} → statement M
 required-caps-spec =
     tie.close
     (tie.spec
-    shared-slice-read-asks-of
     asks-of-requires
     returns
     add-read-u16

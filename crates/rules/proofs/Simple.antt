@@ -1,0 +1,40 @@
+-- What a simple word tells of its instruction: it has no count and asks for no rights, and its flow is 0.
+use mathlib.Core.List.{List}
+use mathlib.Core.Path.{_≡_, refl, subst}
+use Prim.Native.Nat.{ℕ, _+_, _*_, _/_, _%_, _<_}
+use native.Mathlib.Omega.{arith}
+use borrow.Author.Tests.{eqb-false}
+use Rattle.code.specs.Layout.{tagAt}
+use Rattle.code.specs.Tags.{CHAIN}
+use Rattle.code.specs.Width.{widthAt}
+use Rattle.rules.specs.Acts.{Acts}
+use Rattle.rules.specs.Asks.{asking, Asks}
+use Rattle.rules.specs.Rights.{required, lacking}
+use Rattle.rules.specs.Shapes.{Flow, Shape}
+use Rattle.rules.proofs.Amounts.{word-acts}
+use Rattle.rules.proofs.CountPlaces.{count-none}
+
+module _ {tag word : ℕ} (shape : Shape tag word) (small : word < 65536) where
+  pub simple-flow : Flow tag 0
+  simple-flow = subst (λ (flow : ℕ). Flow tag flow) (omega arith) (shape .flow)
+
+  simple-rights : Asks tag 0
+  simple-rights = subst (λ (asked : ℕ). Asks tag asked) (omega arith) (shape .rights)
+
+  no-chain : tag ≡ CHAIN → ⊥
+  no-chain = eqb-false tag CHAIN (simple-rights .by-chain)
+
+module _ (code chains : List ℕ) (at : ℕ) {word : ℕ} (shape : Shape (tagAt code at) word) (small : word < 65536) where
+  required-nothing : (names steps : List ℕ) → 0 ≡ required code names chains steps at
+  unfolding asking
+  required-nothing names steps = simple-rights shape small .needed code names chains steps at refl
+
+  pub simple-lacks : (names steps : List ℕ) (rights : ℕ) → 0 ≡ lacking (required code names chains steps at) rights
+  unfolding lacking
+  simple-lacks names steps rights = rw (← required-nothing names steps) (omega arith)
+
+  pub simple-acts : 0 < widthAt code at
+      → Acts code chains at (record { needs = word % 4 + word / 4 % 4 * 0; pops = word / 16 % 4 + word / 64 % 4 * 0; pushes = word / 256 % 16 })
+  simple-acts wide =
+      word-acts code chains at (no-chain shape small) word shape 0
+      (count-none (record { wide = wide; told = shape .place }) (omega arith))
