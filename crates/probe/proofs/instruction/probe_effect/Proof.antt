@@ -31,14 +31,14 @@ word-at-requires c κs = ready _ _ _ _ _ _ _ _ (there c) .wide
 effect-requires : tie.Need-effect-requires
 effect-requires c κs = let r = ready _ _ _ _ _ _ _ _ (there (c .before)) in (c .word-at .ensures, (r .wide, r .chain-entry))
 
+cast-t12 : tie.Need-cast-t12
+cast-t12 c = search needs
+
 cast-t13 : tie.Need-cast-t13
 cast-t13 c = search needs
 
 cast-t14 : tie.Need-cast-t14
 cast-t14 c = search needs
-
-cast-t15 : tie.Need-cast-t15
-cast-t15 c = search needs
 
 returns-2 : tie.Need-returns-2
 returns-2 c = effect-told _ _ _ _ _ _ _ _ (there (c .before .before .before .before .before)) (c .before .before .before .effect .ensures)
@@ -46,4 +46,4 @@ returns-2 c = effect-told _ _ _ _ _ _ _ _ (there (c .before .before .before .bef
 pub probe-effect-spec : {M : Type 1} → statement M
 probe-effect-spec =
     tie.close
-    (tie.spec is-there-requires returns word-at-requires effect-requires cast-t13 cast-t14 cast-t15 returns-2)
+    (tie.spec is-there-requires returns word-at-requires effect-requires cast-t12 cast-t13 cast-t14 returns-2)

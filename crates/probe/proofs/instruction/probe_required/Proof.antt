@@ -33,12 +33,12 @@ required-caps-requires c κs =
     let r = ready _ _ _ _ _ _ _ _ (there (c .before)) in
     (c .word-at .ensures, (r .wide, (r .name-there, r .chain-there)))
 
-cast-t12 : tie.Need-cast-t12
-cast-t12 c = search needs
+cast-t13 : tie.Need-cast-t13
+cast-t13 c = search needs
 
 returns-2 : tie.Need-returns-2
 returns-2 c = told-if _ _ (there (c .before .before)) (c .required-caps .ensures)
 
 pub probe-required-spec : {M : Type 1} → statement M
 probe-required-spec =
-    tie.close (tie.spec is-there-requires returns word-at-requires required-caps-requires cast-t12 returns-2)
+    tie.close (tie.spec is-there-requires returns word-at-requires required-caps-requires cast-t13 returns-2)

@@ -46,8 +46,8 @@ jump-target-requires c κs =
     let r = ready _ _ _ _ _ _ _ _ (there (c .before .before .before .before)) in
     (r .wide, (r .switch-there, omega (arith, c .before .target-count .ensures .1 (start .args .cases .now) (start .args .ranges .now))))
 
-cast-t15 : tie.Need-cast-t15
-cast-t15 c = search needs
+cast-t14 : tie.Need-cast-t14
+cast-t14 c = search needs
 
 returns-3 : tie.Need-returns-3
 returns-3 c =
@@ -65,5 +65,5 @@ probe-target-spec =
     target-count-requires
     returns-2
     jump-target-requires
-    cast-t15
+    cast-t14
     returns-3)
