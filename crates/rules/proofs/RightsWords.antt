@@ -50,6 +50,7 @@ unfolding asked
 tests tag word =
     same (among tag qualifiable) (eqb (word / 16384) 1)
     ∷ same (eqb tag CHAIN) (leb 2 (word / 16384))
+    ∷ same (eqb tag CHAIN) (eqb word 32768)
     ∷ eqb word (asked tag)
     ∷ []
 
@@ -62,5 +63,6 @@ unfolding rightly
 rights-told tag word t = record {
   by-name = same→eq _ _ (pass 0 (tests tag word) t);
   by-chain = same→eq _ _ (pass 1 (tests tag word) t);
-  needed = λ code names chains steps p e. rw (eqb→eq word (asked tag) (pass 2 (tests tag word) t), ← e) (asked-needed code names chains steps p);
+  chain-alone = same→eq _ _ (pass 2 (tests tag word) t);
+  needed = λ code names chains steps p e. rw (eqb→eq word (asked tag) (pass 3 (tests tag word) t), ← e) (asked-needed code names chains steps p);
 }

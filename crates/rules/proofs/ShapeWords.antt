@@ -2,13 +2,13 @@
 use mathlib.Core.Bool.{Bool, true, false, _&&_, _||_, cond}
 use mathlib.Core.List.{List, [], _∷_}
 use mathlib.Core.Path.{_≡_, refl}
-use Prim.Native.Nat.{ℕ, zero, suc, _<_, _/_, _%_}
+use Prim.Native.Nat.{ℕ, zero, suc, _<_, _/_, _%_, _^_}
 use borrow.Author.Tests.{ne-eqb}
-use lib.Dec.{T, eqb, leb, ltb, eqb→eq}
+use lib.Dec.{T, eqb, leb, ltb, eqb→eq, ltb→lt}
 use lib.ListN.{getD, replicate}
 use Rattle.code.proofs.Table.{each}
 use Rattle.code.specs.Layout.{layout, among}
-use Rattle.code.specs.Tags.{ITER-INIT, ITER-DROP, POP-HANDLER, SWITCH, IMPORT}
+use Rattle.code.specs.Tags.{RETURN, THROW, ITER-INIT, ITER-DROP, POP-HANDLER, SWITCH, IMPORT}
 use Rattle.code.specs.Tags.{iterNexts, pushHandlers}
 use Rattle.code.specs.Width.{widthOf}
 use Rattle.rules.specs.Edges.{jumping, falls, plain}
@@ -38,9 +38,11 @@ tests tag word =
     ∷ same (among tag iterNexts) (eqb (word / 1048576 % 16) 4)
     ∷ same (among tag pushHandlers) (eqb (word / 1048576 % 16) 5)
     ∷ same (eqb tag POP-HANDLER) (eqb (word / 1048576 % 16) 2)
+    ∷ same (among tag (RETURN ∷ THROW ∷ [])) (eqb (word / 1048576 % 16) 9)
     ∷ eqb (iteratorsNeeded tag) (cond (eqb (word / 1048576 % 16) 3) 1 (cond (eqb (word / 1048576 % 16) 4) 1 0))
     ∷ eqb (handlersNeeded tag) (cond (eqb (word / 1048576 % 16) 2) 1 0)
     ∷ rightly tag (word / 16777216 % 65536)
+    ∷ ltb word (2 ^ 40)
     ∷ []
 
 unfoldable pub fits-tag : ℕ → ℕ → Bool
@@ -68,10 +70,12 @@ told tag word t = record {
     advances = same→eq _ _ (passes 13);
     arms = same→eq _ _ (passes 14);
     disarms = same→eq _ _ (passes 15);
-    iterators = eqb→eq _ _ (passes 16);
-    handlers = eqb→eq _ _ (passes 17);
+    ends = same→eq _ _ (passes 16);
+    iterators = eqb→eq _ _ (passes 17);
+    handlers = eqb→eq _ _ (passes 18);
   };
-  rights = rights-told tag (word / 16777216 % 65536) (passes 18);
+  rights = rights-told tag (word / 16777216 % 65536) (passes 19);
+  no-more = ltb→lt _ _ (passes 20);
 }
   where
     passes : (k : ℕ) → T (getD (tests tag word) k true)

@@ -22,5 +22,6 @@ asking word name chain = cond (eqb (word / 16384) 0) word (cond (eqb (word / 163
 pub record Asks (tag word : ℕ) : Type 0 where
   pub by-name : among tag qualifiable ≡ eqb (word / 16384) 1
   pub by-chain : eqb tag CHAIN ≡ leb 2 (word / 16384)
+  pub chain-alone : eqb tag CHAIN ≡ eqb word 32768
   pub needed : (code names chains steps : List ℕ) (p : ℕ) → tagAt code p ≡ tag
       → asking word (ofName names (indexAt code p)) (ofChain steps (chainAt chains (indexAt code p))) ≡ required code names chains steps p
