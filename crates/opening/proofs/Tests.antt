@@ -4,13 +4,13 @@ use mathlib.Core.List.{List}
 use mathlib.Core.Option.{Option, none, some}
 use mathlib.Core.Path.{_≡_, refl, sym, ap, _∙_}
 use Prim.Native.Nat.{ℕ, _+_, _*_, _≤_, _<_}
-use borrow.Author.Tests.{ltb-false, lt-ltb, le-ltb, eq-eqb, ne-eqb, eqb-true}
+use borrow.Author.Tests.{ltb-false, lt-ltb, le-ltb, eq-eqb, ne-eqb}
 use lib.Dec.{ltb, eqb}
 use lib.ListN.{length}
 use Rattle.code.specs.Layout.{among}
-use Rattle.code.proofs.Among.{among-member, member-among}
 use Rattle.listing.specs.Listing.{starts}
-use Rattle.marks.specs.Marks.{Holds, bitAt, isOne}
+use Rattle.listing.proofs.Marked.{told-by-marks}
+use Rattle.marks.specs.Marks.{bitAt, isOne}
 use Rattle.rules.specs.declared.Answer.{Answer}
 use Rattle.rules.specs.declared.Answer.the-variants.{NoRoom, ChunkOutOfRange, Misaligned}
 use Rattle.rules.specs.Chunk.{Judged, fails, walked, judgeChunk}
@@ -22,20 +22,6 @@ use Rattle.rules.specs.declared.Outcome.the-variants.{Passed, Refused}
 use Rattle.opening.specs.Ready.{InCode, Marked}
 use Rattle.rules.specs.Answer.{told}
 use Rattle.opening.specs.Tests.{Test, spanTest, roomTest}
-
--- marks that hold some places tell whether a place is among them
-told-by-marks : {marks ats : List ℕ} → Holds marks ats → (i : ℕ) → isOne (bitAt marks i) ≡ among i ats
-told-by-marks {marks} {ats} h i = by-member (among i ats) refl
-  where
-    by-bit : among i ats ≡ false → (b : Bool) → isOne (bitAt marks i) ≡ b → b ≡ false
-    by-bit q false e = refl
-    by-bit q true e =
-        let m : among i ats ≡ true = member-among i ats (h .only i (eqb-true (bitAt marks i) 1 e)) in
-        absurd (zero≢one (cc))
-
-    by-member : (b : Bool) → among i ats ≡ b → isOne (bitAt marks i) ≡ b
-    by-member true q = eq-eqb (bitAt marks i) 1 (h .set i (among-member i ats q))
-    by-member false q = by-bit q (isOne (bitAt marks i)) refl
 
 -- what a test tells, by its outcome
 pub tells-refusal : {r : Outcome} {t : Test} {answer : Answer} → told r ≡ t → r ≡ Refused answer → t ≡ some answer

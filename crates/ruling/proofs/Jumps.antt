@@ -19,6 +19,8 @@ use Rattle.rules.specs.Walk.{firstBad}
 use Rattle.rules.specs.declared.Outcome.{Outcome}
 use Rattle.rules.specs.declared.Outcome.the-variants.{Passed, Refused}
 use Rattle.rules.specs.Answer.{told}
+use Rattle.ruling.specs.Ruling.{jumpTest}
+use Rattle.ruling.proofs.Jump.{judged}
 
 abbrev span : (entry end declared : ℕ) → Span
 span entry end declared = record { entry = entry; end = end; declared = declared }
@@ -36,11 +38,6 @@ module _ (test : ℕ → Option Answer) (d : Depths) {t : ℕ} (ts : List ℕ) {
   stops : {answer : Answer} → r ≡ Refused answer → told r ≡ firstBad test (jumps d (t ∷ ts))
   unfolding firstBad told
   stops p = rw (← e, p)
-
--- what is told of a jump, in whatever script's starts the marks hold
-abbrev pub Told : (marks : List ℕ) (entry end at target : ℕ) → Outcome → Type 0
-Told marks entry end at target r =
-    (S : Script) (declared : ℕ) → Holds marks (starts (S .code)) → told r ≡ judge S (span entry end declared) at target
 
 -- the targets before the one at hand are good
 pub record Good (marks targets : List ℕ) (entry end at k : ℕ) : Type 0 where
@@ -72,15 +69,15 @@ module _ {marks targets : List ℕ} {entry end at k : ℕ} (inv : Good marks tar
     in-turn S declared d h =
         ap (λ (ts : List ℕ). firstBad (judge S (span entry end declared) at) (jumps d ts)) here ∙ inv .left S declared d h
 
-    module _ {r : Outcome} (found : Told marks entry end at t r) where
+    module _ {r : Outcome} (tested : told r ≡ jumpTest marks entry end at t) where
       pub one-more : r ≡ Passed → Good marks targets entry end at (k + 1)
       one-more p = record {
         within = omega arith;
         left = λ S declared d h.
-            sym (goes-on (judge S (span entry end declared) at) d (drop (k + 1) targets) (found S declared h) p) ∙ in-turn S declared d h;
+            sym (goes-on (judge S (span entry end declared) at) d (drop (k + 1) targets) (tested ∙ judged S (span entry end declared) at t h) p) ∙ in-turn S declared d h;
       }
 
       pub refused : {answer : Answer} → r ≡ Refused answer → (S : Script) (declared : ℕ) (d : Depths) → Holds marks (starts (S .code))
           → told r ≡ firstBad (judge S (span entry end declared) at) (jumps d targets)
       refused p S declared d h =
-          stops (judge S (span entry end declared) at) d (drop (k + 1) targets) (found S declared h) p ∙ in-turn S declared d h
+          stops (judge S (span entry end declared) at) d (drop (k + 1) targets) (tested ∙ judged S (span entry end declared) at t h) p ∙ in-turn S declared d h

@@ -2,12 +2,14 @@
 -- the script that the parameters of a call make. Document 01, "Order of the tests": "rights (kind 4, p only what
 -- lacks); 12; 15 for ITER_DROP, 16 for POP_HANDLER; then edges, each target tested for 9, then 10, and the fall-through pushed
 -- last. ITER_NEXT* tests 15 before its target [...]. A plain instruction whose successor is not before the end gives 13."
-use mathlib.Core.Bool.{_&&_, cond}
+use mathlib.Core.Bool.{_&&_, _||_, cond}
+use mathlib.Core.List.{List}
 use mathlib.Core.Option.{Option, none, some}
 use Prim.Native.Nat.{ℕ, _+_, _^_, _≤_, _<_}
 use lib.Dec.{ltb, leb}
+use Rattle.marks.specs.Marks.{bitAt, isOne}
 use Rattle.rules.specs.declared.Answer.{Answer}
-use Rattle.rules.specs.declared.Answer.the-variants.{MissingCaps, Underflow, FallsOffTheEnd, IteratorUnderflow, HandlerUnderflow}
+use Rattle.rules.specs.declared.Answer.the-variants.{MissingCaps, JumpOutOfRange, JumpIntoAnInstruction, Underflow, FallsOffTheEnd, IteratorUnderflow, HandlerUnderflow}
 use Rattle.rules.specs.declared.Depths.{Depths}
 use Rattle.rules.specs.declared.Effect.{Effect}
 use Rattle.rules.specs.Edges.{falls, plain, afterOf, jumpedOf, after, jumped, next}
@@ -63,6 +65,12 @@ pub record Settles (flow : ℕ) (effect : Effect) (d : Depths) : Type 0 where
   pub operands-fit : d .operands + 1 < 2 ^ 32
   pub iterators-fit : d .iterators + 1 < 2 ^ 32
   pub handlers-fit : d .handlers + 1 < 2 ^ 32
+
+-- 9, then 10, of a jump, where a bit of the marks tells a start
+unfoldable pub jumpTest : (marks : List ℕ) (entry end at target : ℕ) → Option Answer
+jumpTest marks entry end at target =
+    cond (ltb target entry || leb end target) (some (JumpOutOfRange at target))
+    (cond (isOne (bitAt marks target)) none (some (JumpIntoAnInstruction at target)))
 
 -- ---- the rule's answer
 

@@ -14,13 +14,12 @@ ghost use Rattle.marks.specs.Marks.{Holds};
 ghost use Rattle.rules.specs.declared.Depths.{Depths};
 ghost use Rattle.rules.specs.Edges.{targetsOf};
 ghost use Rattle.rules.specs.Rule.{judge};
-ghost use Rattle.rules.specs.Script.{Script};
 ghost use Rattle.rules.specs.Shapes.{Shape, Flow};
 ghost use Rattle.rules.specs.There.{NameThere, ChainThere, SwitchThere, HeldBy};
 ghost use Rattle.rules.specs.Walk.{firstBad};
 ghost use Rattle.rules.specs.Answer.{told};
 ghost use Rattle.rules.specs.Script.{script};
-ghost use Rattle.ruling.specs.Ruling.{needsTest, leaving, Settles, settled, ruled};
+ghost use Rattle.ruling.specs.Ruling.{needsTest, leaving, Settles, settled, jumpTest, ruled};
 use rules::Answer;
 use rules::Depths;
 use rules::Effect;
@@ -157,8 +156,7 @@ fn is_outside(entry: u32, end: u32, target: u32) -> bool
 
 // The tests of one jump: 9, then 10.
 pub fn go(marks: &[u64], entry: u32, end: u32, at: usize, target: u32) -> Outcome
-    ensures { λ r. ⌜ ((S : Script) (declared : ℕ) → Holds (now (marks .entry)) (starts (S .code))
-        → told r ≡ judge S (record { entry = entry; end = end; declared = declared }) at target) ⌝ }
+    ensures { λ r. ⌜ told r ≡ jumpTest (now (marks .entry)) entry end at target ⌝ }
 {
     let outside = is_outside(entry, end, target);
     let starts = marks::starts_at(marks, target as usize);

@@ -13,19 +13,19 @@ starts-at-requires c κs = search needs
 
 returns : tie.Need-returns
 unfolding told
-returns c = λ S declared h. out-of-range S _ _ _ (c .before .before .is-outside .ensures) (c .if1 .taken)
+returns c = out-of-range _ _ _ _ _ (c .before .before .is-outside .ensures) (c .if1 .taken)
 
 returns-2 : tie.Need-returns-2
 unfolding told
 returns-2 c =
     let tests = c .before .before in
-    λ S declared h. at-no-start S _ _ _ (tests .before .is-outside .ensures) (c .before .if1 .left) h (tests .starts-at .ensures) (c .if2 .taken)
+    at-no-start _ _ _ _ _ (tests .before .is-outside .ensures) (c .before .if1 .left) (tests .starts-at .ensures) (c .if2 .taken)
 
 returns-3 : tie.Need-returns-3
 unfolding told
 returns-3 c =
     let tests = c .before .before in
-    λ S declared h. at-start S _ _ _ (tests .before .is-outside .ensures) (c .before .if1 .left) h (tests .starts-at .ensures) (c .if2 .left)
+    at-start _ _ _ _ _ (tests .before .is-outside .ensures) (c .before .if1 .left) (tests .starts-at .ensures) (c .if2 .left)
 
 pub go-spec : {M : Type 1} → statement M
 go-spec =
