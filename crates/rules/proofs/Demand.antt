@@ -187,9 +187,9 @@ module _ (S : Script) (span : Span) where
   unfolding rule judge E
   same-walk declared = refl
 
-  still : {records work : ℕ} (declared : ℕ) → BeforeWalk S span records work → BeforeWalk S (redeclared span declared) records work
+  pub redeclared-before : {records work : ℕ} (declared : ℕ) → BeforeWalk S span records work → BeforeWalk S (redeclared span declared) records work
   unfolding T E
-  still declared B = record {
+  redeclared-before declared B = record {
     decoded = B .decoded;
     chain-there = B .chain-there;
     switch-there = B .switch-there;
@@ -213,7 +213,7 @@ module _ (S : Script) (span : Span) where
 
       to : Accepted S (redeclared span declared) → h ≤ declared
       to other =
-          let then = ran-so S (redeclared span declared) (still declared B) (other .so) in
+          let then = ran-so S (redeclared span declared) (redeclared-before declared B) (other .so) in
           let same : then .book ≡ first .book = cc (then .ran, same-walk declared, first .ran) in
           omega (arith, then .low, first .numbers .0, ap (λ (b : Book Log). b .height) same)
 
@@ -222,5 +222,5 @@ module _ (S : Script) (span : Span) where
         height = _;
         reached = _;
         taken = _;
-        so = passes-so S (redeclared span declared) (still declared B) (first .book) (same-walk declared ∙ first .ran) (omega (arith, first .numbers .0));
+        so = passes-so S (redeclared span declared) (redeclared-before declared B) (first .book) (same-walk declared ∙ first .ran) (omega (arith, first .numbers .0));
       }
