@@ -135,7 +135,7 @@ pub fn rule_of(
         (record { entry = entry; end = end; declared = declared }) at d) ⌝ }
 {
     let next = (at + rules::shapes::width_in(word)) as u32;
-    // Most instructions are simple: nothing of them is looked up but the word.
+    // Of a simple instruction nothing is looked up but the word.
     if rules::shapes::is_simple(word) {
         let effect = rules::effects::fixed_effect(word);
         return settle(0, 0, effect, at, next, end, d);
