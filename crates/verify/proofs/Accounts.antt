@@ -23,8 +23,9 @@ use Rattle.rules.specs.Chunk as chunk
 use Rattle.rules.specs.declared.Answer.{Answer}
 use Rattle.rules.specs.declared.Answer.the-variants.{Accepted}
 use Rattle.rules.specs.declared.verdict.Verdict.{Verdict}
+use Rattle.rules.specs.Measures.{Measures}
 use Rattle.rules.specs.Script.{Script, Span}
-use Rattle.verify.specs.Accounts.{chunkAt, sumBelow, Accounted}
+use Rattle.verify.specs.Accounts.{chunkAt, sumBelow, Filled, Accounted}
 use Rattle.verify.specs.Call.{Memory, verdictOn, startBits, concluded, onward, outcome, result}
 use Rattle.verify.specs.Demand.{ComesToChunks}
 use Rattle.verify.specs.Judging.{Judged, judgeAll}
@@ -95,10 +96,11 @@ module _ (S : Script) (records work : ℕ) (spans : List Span) where
       rest : judgeAll S records work (drop n spans) n (sumBelow reachedAt n) (sumBelow takenAt n) heights ≡ judgeAll S records work spans 0 0 0 before
       long : length heights ≡ length before
       held : (i : ℕ) → i < n → i < length before → getD heights i 0 ≡ heightAt i
+      kept : (i : ℕ) → n ≤ i → getD heights i 0 ≡ getD before i 0
 
     sofar : (n : ℕ) → n ≤ length spans → ((i : ℕ) → i < n → PassesAt i) → Sofar n
     unfolding sumBelow
-    sofar zero h p = record { heights = before; rest = refl; long = refl; held = λ i l. absurd (not-suc-le-zero l) }
+    sofar zero h p = record { heights = before; rest = refl; long = refl; held = λ i l. absurd (not-suc-le-zero l); kept = λ i l. refl }
     sofar (suc n) h p = next (sofar n (omega arith) (λ i l. p i (omega arith)))
       where
         next : Sofar n → Sofar (suc n)
@@ -107,6 +109,7 @@ module _ (S : Script) (records work : ℕ) (spans : List Span) where
           rest = rw one-more at on;
           long = length-set (s .heights) n (heightAt n) ∙ s .long;
           held = held;
+          kept = λ i l. getD-set-other (s .heights) n i _ 0 (λ e. omega arith) ∙ s .kept i (omega arith);
         }
           where
             one-more : n + 1 ≡ suc n
@@ -131,7 +134,9 @@ module _ (S : Script) (records work : ℕ) (spans : List Span) where
       pub heights : List ℕ
       pub so : judgeAll S records work spans 0 0 0 before
           ≡ record { answer = Passed (sumBelow reachedAt (length spans)) (sumBelow takenAt (length spans)); heights = heights }
+      pub long : length heights ≡ length before
       pub held : (i : ℕ) → i < length spans → i < length before → getD heights i 0 ≡ heightAt i
+      pub kept : (i : ℕ) → length spans ≤ i → getD heights i 0 ≡ getD before i 0
 
     pub judged-passes : ((i : ℕ) → i < length spans → PassesAt i) → AllJudged
     judged-passes p =
@@ -139,16 +144,24 @@ module _ (S : Script) (records work : ℕ) (spans : List Span) where
         record {
           heights = s .heights;
           so = sym (s .rest) ∙ rw (drop-of-length-le spans {i = length spans} (omega arith)) (judge-none S records work _ _ _ _);
+          long = s .long;
           held = s .held;
+          kept = s .kept;
         }
 
-    pub judged-fails : (i : ℕ) {a : Answer} → i < length spans → ((j : ℕ) → j < i → PassesAt j) → judgedAt i ≡ fails a
-        → judgeAll S records work spans 0 0 0 before .answer ≡ Refused i a
+    pub record OneRefused (n : ℕ) (a : Answer) : Type 0 where
+      pub heights : List ℕ
+      pub so : judgeAll S records work spans 0 0 0 before ≡ record { answer = Refused n a; heights = heights }
+      pub long : length heights ≡ length before
+      pub held : (i : ℕ) → i < n → i < length before → getD heights i 0 ≡ heightAt i
+      pub kept : (i : ℕ) → n ≤ i → getD heights i 0 ≡ getD before i 0
+
+    pub judged-fails : (i : ℕ) {a : Answer} → i < length spans → ((j : ℕ) → j < i → PassesAt j) → judgedAt i ≡ fails a → OneRefused i a
     judged-fails i {a} l p e =
         let s = sofar i (omega arith) p in
         let ends : judgeAll S records work (drop i spans) i (sumBelow reachedAt i) (sumBelow takenAt i) (s .heights) ≡ record { answer = Refused i a; heights = s .heights } =
         rw (chunk-next spans i l) (judge-fails S records work (chunkAt spans i) (drop (suc i) spans) i (sumBelow reachedAt i) (sumBelow takenAt i) (s .heights) e) in
-        ap (λ (j : Judged). j .answer) (sym (s .rest) ∙ ends)
+        record { heights = s .heights; so = sym (s .rest) ∙ ends; long = s .long; held = s .held; kept = s .kept }
 
 -- ---- a call that comes to its chunks
 
@@ -185,7 +198,23 @@ module _ (I : Input) (spans : List Span) (before : Memory) where
     pub refuses : (i : ℕ) {a : Answer} → i < length spans → ((j : ℕ) → j < i → PassesIn j) → judgedAt (I .script) records work spans i ≡ fails a
         → result I spans before .verdict ≡ numbered i a
     unfolding concluded verdictOn
-    refuses i l p e = rw (judges, judged-fails (I .script) records work spans (before .heights) i l p e) refl
+    refuses i l p e = rw (judges, judged-fails (I .script) records work spans (before .heights) i l p e .so) refl
+
+    -- and the heights of those before it are measured
+    pub fills-before : I .chunks ≡ length spans → (i : ℕ) {a : Answer} → i < length spans → ((j : ℕ) → j < i → PassesIn j)
+        → judgedAt (I .script) records work spans i ≡ fails a → Filled (I .script) spans i (before .heights) (result I spans before .memory .heights)
+    unfolding concluded
+    fills-before same i l p e =
+        let one = judged-fails (I .script) records work spans (before .heights) i l p e in
+        rw (judges, one .so)
+        (record {
+          reached-in = reachedAt (I .script) records work spans;
+          taken-in = takenAt (I .script) records work spans;
+          measured = λ j k.
+              rw (one .held j k (omega (arith, room I _ _ begun .heights-lent, same))) (passes-measures I known (chunkAt spans j) records work (p j k));
+          untouched = one .kept;
+          as-many = one .long;
+        })
 
     -- where all pass, it is accepted
     module _ (p : (i : ℕ) → i < length spans → PassesIn i) where
@@ -205,15 +234,28 @@ module _ (I : Input) (spans : List Span) (before : Memory) where
       unfolding concluded
       keeps-heights = rw (judges, all .so) refl
 
+      measures-all : I .chunks ≡ length spans → (i : ℕ) → i < length spans
+          → Measures (I .script) (chunkAt spans i) (getD (result I spans before .memory .heights) i 0) (reachedAt (I .script) records work spans i) (takenAt (I .script) records work spans i)
+      measures-all same i l =
+          rw (keeps-heights, all .held i l (omega (arith, room I _ _ begun .heights-lent, same)))
+          (passes-measures I known (chunkAt spans i) records work (p i l))
+
+      pub fills-all : I .chunks ≡ length spans → Filled (I .script) spans (length spans) (before .heights) (result I spans before .memory .heights)
+      fills-all same = record {
+        reached-in = reachedAt (I .script) records work spans;
+        taken-in = takenAt (I .script) records work spans;
+        measured = measures-all same;
+        untouched = λ i l. rw keeps-heights (all .kept i l);
+        as-many = rw keeps-heights (all .long);
+      }
+
       accounts : I .chunks ≡ length spans → Accounted (I .script) spans (result I spans before .memory .heights) (result I spans before .verdict)
       unfolding numbered
       accounts same = record {
         written = λ i l. passes-written I known (chunkAt spans i) records work (p i l);
         reached-in = reachedAt (I .script) records work spans;
         taken-in = takenAt (I .script) records work spans;
-        measured = λ i l.
-            rw (keeps-heights, all .held i l (omega (arith, room I _ _ begun .heights-lent, same)))
-            (passes-measures I known (chunkAt spans i) records work (p i l));
+        measured = measures-all same;
         instructions = ap (λ (v : Verdict). v .instructions) accepts ∙ counted;
         reached = ap (λ (v : Verdict). v .reached) accepts;
         taken = ap (λ (v : Verdict). v .taken) accepts;

@@ -1,5 +1,5 @@
 -- The customer's third demand, of the whole call: it accepts exactly when everything before the chunks passes and each chunk opens and
--- can be written; a chunk that it comes to it refuses exactly when that one cannot be written, for what is real on its paths; and its
+-- can be written; its heights are measured as far as it comes; a chunk that it comes to it refuses exactly when that one cannot be written, for what is real on its paths; and its
 -- contract allows one outcome.
 use mathlib.Core.List.{List}
 use mathlib.Core.Logic.{_↔_}
@@ -18,8 +18,8 @@ use Rattle.rules.specs.Writing.{Writing}
 use Rattle.rules.proofs.Lists.{zero≢one}
 use Rattle.verify.specs.Accounts.{chunkAt}
 use Rattle.verify.specs.Call.{Memory, onward, outcome, result, Calls}
-use Rattle.verify.specs.Demand.{ComesToChunks, OpensAt, Good, Acceptable, RefusedAt}
-use Rattle.verify.proofs.Accounts.{judgedAt, passes-at, Ways, all-pass, one-fails, ways, known, PassesIn, refuses, accepts-kind, all-passed}
+use Rattle.verify.specs.Demand.{ComesToChunks, OpensAt, Good, Acceptable, Fills, RefusedAt}
+use Rattle.verify.proofs.Accounts.{judgedAt, passes-at, Ways, all-pass, one-fails, ways, known, PassesIn, refuses, fills-before, accepts-kind, fills-all, all-passed}
 use Rattle.verify.proofs.Chunks.{passes-opens, passes-written, written-passes, fails-really, fails-refuses}
 use Rattle.verify.proofs.Sorts.{early-kind, late-kind, real-kind}
 
@@ -57,6 +57,25 @@ module _ (I : Input) (spans : List Span) (before : Memory) where
     λ z. record { begins = begins z; chunks = λ i l. passes-good (begins z) i (all-passed I spans before (begins z) z i l) },
     λ a. accepts-kind I spans before (a .begins) (λ i l. good-passes (a .begins) i (a .chunks i l)),
   )
+
+  -- Heights are what document 01 says, for every call that comes to its chunks.
+  pub heights-filled : I .chunks ≡ length spans → ComesToChunks I before → {r : Verdict} {after : Memory} → Calls I spans before r after
+      → Fills I spans before r (after .heights)
+  heights-filled same b c = rw (c .verdict, c .memory) (go (ways (I .script) records work spans (length spans)))
+    where
+      go : Ways (I .script) records work spans (length spans) → Fills I spans before (result I spans before .verdict) (result I spans before .memory .heights)
+      go (all-pass p) = record {
+        accepting = λ z. fills-all I spans before b p same;
+        refusing = λ n. absurd (n (accepts-kind I spans before b p));
+      }
+      go (one-fails i a l p e) =
+          let v = refuses I spans before b i l p e in
+          let kind = fails-refuses I (known I spans before b) (chunkAt spans i) records work e i in
+          let number : i ≡ result I spans before .verdict .chunk = sym (ap (λ (x : Verdict). x .chunk) v ∙ kind .1) in
+          record {
+            accepting = λ z. absurd (omega (arith, z, ap (λ (x : Verdict). x .kind) v, kind .0));
+            refusing = λ n. rw (← number) (fills-before I spans before b same i l p e);
+          }
 
   -- Of a chunk that opens, where those before it are good: it is refused exactly when it cannot be written.
   pub refused-exactly : ComesToChunks I before → (i : ℕ) → i < length spans → ((j : ℕ) → j < i → Good I spans before j) → OpensAt I spans before i

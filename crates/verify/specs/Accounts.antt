@@ -5,7 +5,7 @@
 -- Nothing here knows how a chunk is judged.
 use mathlib.Core.List.{List}
 use mathlib.Core.Path.{_≡_}
-use Prim.Native.Nat.{ℕ, zero, suc, _+_, _<_}
+use Prim.Native.Nat.{ℕ, zero, suc, _+_, _≤_, _<_}
 use lib.ListN.{length, getD}
 use Rattle.listing.specs.Listing.{starts}
 use Rattle.rules.specs.declared.verdict.Verdict.{Verdict}
@@ -21,6 +21,14 @@ chunkAt spans i = getD spans i (record { entry = 0; end = 0; declared = 0 })
 unfoldable pub sumBelow : (f : ℕ → ℕ) (n : ℕ) → ℕ
 sumBelow f zero = 0
 sumBelow f (suc n) = sumBelow f n + f n
+
+-- heights where the chunks below a number are measured and no other element is touched
+pub record Filled (S : Script) (spans : List Span) (n : ℕ) (heights heights′ : List ℕ) : Type 0 where
+  pub reached-in : ℕ → ℕ
+  pub taken-in : ℕ → ℕ
+  pub measured : (i : ℕ) → i < n → Measures S (chunkAt spans i) (getD heights′ i 0) (reached-in i) (taken-in i)
+  pub untouched : (i : ℕ) → n ≤ i → getD heights′ i 0 ≡ getD heights i 0
+  pub as-many : length heights′ ≡ length heights
 
 pub record Accounted (S : Script) (spans : List Span) (heights : List ℕ) (r : Verdict) : Type 0 where
   -- depths can be written beside the starts of each chunk

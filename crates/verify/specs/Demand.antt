@@ -1,4 +1,4 @@
--- When a call accepts, and when it refuses a chunk for its walk. Document 01, "Order of the tests": all that comes before the
+-- When a call accepts, what it leaves in heights, and when it refuses a chunk for its walk. Document 01, "Order of the tests": all that comes before the
 -- chunks, then of each chunk "7; 8 if the entry is neither a start nor the code's length; room for records, work; walk; 14". What
 -- the walk and 14 have to come to is the customer's third demand: Writing.
 use mathlib.Core.List.{List}
@@ -12,11 +12,12 @@ use Rattle.before.specs.Input.{Input}
 use Rattle.opening.specs.Ready.{InCode}
 use Rattle.rules.specs.Answer.{numbered}
 use Rattle.rules.specs.declared.Answer.{Answer}
+use Rattle.rules.specs.declared.verdict.Verdict.{Verdict}
 use Rattle.rules.specs.Edges.{T, E}
 use Rattle.rules.specs.Refusals.{Real, Exceeds}
 use Rattle.rules.specs.Script.{Script, Span}
 use Rattle.rules.specs.Writing.{Writing}
-use Rattle.verify.specs.Accounts.{chunkAt}
+use Rattle.verify.specs.Accounts.{chunkAt, Filled}
 use Rattle.verify.specs.Call.{Memory, result}
 
 -- a chunk passes its own tests before its walk, where so many words of records and of work are lent
@@ -46,6 +47,11 @@ module _ (I : Input) (spans : List Span) (before : Memory) where
   pub record Acceptable : Type 0 where
     pub begins : ComesToChunks I before
     pub chunks : (i : ℕ) → i < length spans → Good i
+
+  -- "heights hold a measured height for each chunk before the one refused (all, if accepted), the others untouched"
+  pub record Fills (r : Verdict) (heights′ : List ℕ) : Type 0 where
+    pub accepting : r .kind ≡ 0 → Filled (I .script) spans (length spans) (before .heights) heights′
+    pub refusing : ¬ (r .kind ≡ 0) → Filled (I .script) spans (r .chunk) (before .heights) heights′
 
   -- a call that is refused for this chunk's walk, with its number: an instruction on its paths really fails that test, or the largest
   -- depth on them is above the declared height
