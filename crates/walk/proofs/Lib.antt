@@ -1,5 +1,6 @@
 -- The laws that proofs cite.
 pub mod Store
+pub mod Waits
 pub mod Moment
 pub mod Parts
 pub mod Turns
