@@ -17,7 +17,7 @@ use Rattle.rules.specs.Machine.{origin}
 use Rattle.rules.specs.Rule.{machine, rule, judge}
 use Rattle.rules.specs.Script.{Script, Span}
 use Rattle.rules.specs.Walk.{Book, blank, Turn, goes-on, stops, Run, accepted, refused, unfinished, run, walk, Log, log}
-use Rattle.rules.proofs.Demand.{judged-walks}
+use Rattle.rules.proofs.Demand.{judged-walks, redeclared-before}
 use Rattle.rules.proofs.Ends.{accepted-bounded, refused-bounded}
 use Rattle.rules.proofs.Keeps.{keeps-laws}
 use Rattle.rules.proofs.Slices.{next-goes-on, next-stops, stays-accepted, stays-refused}
@@ -31,23 +31,6 @@ use Rattle.walk.specs.Records.{seenStore}
 use Rattle.walk.specs.Units.{itemOf, bookOf, waitsIn, firstHand, spanOf, turnOf, Going, GoesOn, Ends}
 use Rattle.walk.proofs.Store.{Fit, faithful, laid-fit, laid-empty}
 use Rattle.walk.proofs.Waits.{waits-none, none-numbered}
-
--- the same chunk with another height declared passed the same checks
-redeclared-before : (S : Script) (span : Span) (declared : ℕ) {records work : ℕ} → BeforeWalk S span records work → BeforeWalk S (redeclared span declared) records work
-unfolding T E
-redeclared-before S span declared B = record {
-  decoded = B .decoded;
-  chain-there = B .chain-there;
-  switch-there = B .switch-there;
-  steps-within = B .steps-within;
-  cases-within = B .cases-within;
-  ranges-within = B .ranges-within;
-  in-order = B .in-order;
-  in-code = B .in-code;
-  aligned = B .aligned;
-  records-room = B .records-room;
-  work-room = B .work-room;
-}
 
 measured-as : (declared : ℕ) (b : Book Log) {height reached taken : ℕ} → height ≡ b .height → reached ≡ b .reached → taken ≡ b .taken
     → measured declared (accepted b) ≡ cond (ltb declared height) (fails (StackExceedsDeclared height declared)) (passes height reached taken)
