@@ -35,6 +35,7 @@ use Rattle.rules.proofs.Inside.{inside, entry-starts}
 use Rattle.rules.specs.Script.{Script, Span}
 use Rattle.rules.specs.Walk.{stops}
 use Rattle.words.specs.Stack.{Clear}
+use Rattle.walk.specs.declared.Counts.{Counts}
 use Rattle.walk.specs.declared.Hand.{Hand}
 use Rattle.walk.specs.declared.Turn.{Turn}
 use Rattle.walk.specs.declared.Turn.the-variants.{Next, Done, Refused as Stopped}
@@ -121,7 +122,7 @@ module _ (S : Script) (room : Room) (h : Hand) (records work : List ℕ) (t : Tu
   pub took-next : {next : Hand} → t ≡ Next next → GoesOn S room (turnOf S room h records work) next records′ work′
   took-next e = subst (λ (x : Turn). Took S room h records work x records′ work′) e k
 
-  pub took-done : {last : Hand} → t ≡ Done last → Ends S room (turnOf S room h records work) last records′ work′
+  pub took-done : {last : Counts} → t ≡ Done last → Ends S room (turnOf S room h records work) last records′ work′
   took-done e = subst (λ (x : Turn). Took S room h records work x records′ work′) e k
 
   pub took-refused : {a : Answer} → t ≡ Stopped a → Stops S room (turnOf S room h records work) a records work records′ work′
@@ -250,7 +251,7 @@ module _ {S : Script} {marks : List ℕ} {words rooms : ℕ} where
     stopped-judged e = refuses-so S room words rooms lent h records work (W .records-long) (W .at .going) e
 
     -- none is left
-    module _ {last : Hand} {records′ work′ : List ℕ} (g : Ends S room (turnOf S room h records work) last records′ work′) where
+    module _ {last : Counts} {records′ work′ : List ℕ} (g : Ends S room (turnOf S room h records work) last records′ work′) where
       pub ended-judged : (declared : ℕ) → judgeChunk S (redeclared (spanOf room) declared) words rooms
           ≡ cond (ltb declared (last .height)) (fails (StackExceedsDeclared (last .height) declared)) (passes (last .height) (last .reached) (last .taken))
       ended-judged = ended S room words rooms lent h records work (W .records-long) (W .at .going) last records′ work′ g

@@ -24,11 +24,12 @@ use Rattle.rules.proofs.Slices.{next-goes-on, next-stops, stays-accepted, stays
 use Rattle.rules.proofs.Stores.{Tells, same-accepted, same-refused}
 use Rattle.rules.proofs.Turn.{Taken, again, enters, turn-is, taken-so}
 use Rattle.words.specs.Stack.{Clear}
+use Rattle.walk.specs.declared.Counts.{Counts}
 use Rattle.walk.specs.declared.Hand.{Hand}
 use Rattle.opening.specs.declared.Room.{Room}
 use Rattle.opening.specs.Records.{keys, laid}
 use Rattle.walk.specs.Records.{seenStore}
-use Rattle.walk.specs.Units.{itemOf, bookOf, waitsIn, firstHand, spanOf, turnOf, Going, GoesOn, Ends}
+use Rattle.walk.specs.Units.{itemOf, bookWith, bookOf, waitsIn, firstHand, spanOf, turnOf, Going, GoesOn, Ends}
 use Rattle.walk.proofs.Store.{Fit, faithful, laid-fit, laid-empty}
 use Rattle.walk.proofs.Waits.{waits-none, none-numbered}
 
@@ -93,12 +94,12 @@ module _ (S : Script) (room : Room) (words rooms : ℕ) (B : BeforeWalk S (spanO
         )
 
     -- no item is left
-    module _ (last : Hand) (records′ work′ : List ℕ) (g : Ends S room (turnOf S room h records work) last records′ work′) where
-      over : walk (machine S span) (seenStore S span) (h .taken + 1) (laid S span words) ≡ accepted (bookOf last records′)
+    module _ (last : Counts) (records′ work′ : List ℕ) (g : Ends S room (turnOf S room h records work) last records′ work′) where
+      over : walk (machine S span) (seenStore S span) (h .taken + 1) (laid S span words) ≡ accepted (bookWith last records′)
       unfolding run
       over = next-goes-on (machine S span) (seenStore S span) (h .taken) (origin (machine S span) ∷ []) (blank (laid S span words)) ran (took (g .turned))
 
-      on-log : (b : Book Log) × (walk (machine S span) log (h .taken + 1) [] ≡ accepted b) × Tells (machine S span) (seenStore S span) (Fit S span words) (bookOf last records′) b
+      on-log : (b : Book Log) × (walk (machine S span) log (h .taken + 1) [] ≡ accepted b) × Tells (machine S span) (seenStore S span) (Fit S span words) (bookWith last records′) b
       on-log =
           same-accepted (machine S span) (seenStore S span) (Fit S span words) (faithful S span words (B .records-room))
           (laid-fit S span words (B .records-room)) (laid-empty S span words (B .records-room)) (h .taken + 1) over

@@ -45,7 +45,7 @@ module _ (S : Script) (room : Room) where
     numbered = b .numbered;
   }
   back-comes records work work₁ work₂ in-hand (Done last) e c b = record {
-    turned = e ∙ rw (b .same, b .waits, waits-none (keys S (spanOf room)) work₁) refl;
+    turned = e ∙ rw (b .counts, b .waits, waits-none (keys S (spanOf room)) work₁) refl;
     clear = rw (b .words) (rw (b .waits) at c);
   }
   back-comes records work work₁ work₂ in-hand (Refused a) e c b = absurd b

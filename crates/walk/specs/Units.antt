@@ -24,6 +24,7 @@ use Rattle.rules.specs.Answer.{told}
 use Rattle.words.specs.Seen.{noteAt}
 use Rattle.words.specs.declared.stack.Waiting.{Waiting}
 use Rattle.words.specs.Stack.{itemAt, items, putAll, Clear}
+use Rattle.walk.specs.declared.Counts.{Counts}
 use Rattle.walk.specs.declared.Hand.{Hand}
 use Rattle.opening.specs.declared.Room.{Room}
 use Rattle.walk.specs.declared.Turn.{Turn}
@@ -36,8 +37,14 @@ use Rattle.walk.specs.Records.{seenStore}
 abbrev pub itemOf : Hand → Item
 itemOf h = record { place = h .place; depths = h .depths }
 
+abbrev pub countsOf : Hand → Counts
+countsOf h = record { reached = h .reached; taken = h .taken; height = h .height }
+
+abbrev pub bookWith : Counts → (records : List ℕ) → Book (List ℕ)
+bookWith counts records = record { store = records; reached = counts .reached; taken = counts .taken; height = counts .height }
+
 abbrev pub bookOf : Hand → (records : List ℕ) → Book (List ℕ)
-bookOf h records = record { store = records; reached = h .reached; taken = h .taken; height = h .height }
+bookOf h records = bookWith (countsOf h) records
 
 -- ---- what waits
 
@@ -95,9 +102,9 @@ pub record TakenBack (keys : List ℕ) (h : Hand) (work : List ℕ) (next : Hand
   pub numbered : Numbered keys work′ (next .waiting)
 
 -- there was none
-pub record NoneBack (h : Hand) (work : List ℕ) (last : Hand) (work′ : List ℕ) : Type 0 where
+pub record NoneBack (h : Hand) (work : List ℕ) (last : Counts) (work′ : List ℕ) : Type 0 where
   pub waits : h .waiting ≡ 0
-  pub same : last ≡ h
+  pub counts : last ≡ countsOf h
   pub words : work′ ≡ work
 
 abbrev pub Back : (keys : List ℕ) → Hand → (work : List ℕ) → Turn → (work′ : List ℕ) → Type 0
@@ -201,8 +208,8 @@ module _ (S : Script) (room : Room) where
     pub numbered : Numbered (keys S (spanOf room)) work (h .waiting)
 
   -- no item is left,
-  pub record Ends (t : definition.Turn Answer (List ℕ)) (h : Hand) (records work : List ℕ) : Type 0 where
-    pub turned : t ≡ goes-on [] (bookOf h records)
+  pub record Ends (t : definition.Turn Answer (List ℕ)) (last : Counts) (records work : List ℕ) : Type 0 where
+    pub turned : t ≡ goes-on [] (bookWith last records)
     pub clear : Clear work 0
 
   -- or a refusal, and the words are as they were

@@ -14,6 +14,7 @@ ghost use Rattle.words.specs.Stack.{Clear};
 ghost use Rattle.walk.specs.Units.{AllKeys, Numbered, Pushed, fallen, Back, Leaves, Left};
 ghost use Rattle.rules.specs.Script.{script};
 ghost use Rattle.walk.specs.Units.{droppedHand, enteredHand, AtItem, Unseen, Took};
+use crate::Counts;
 use crate::Hand;
 use crate::Turn;
 use opening::Room;
@@ -130,7 +131,11 @@ fn take_back(hand: Hand, records: &[u32], keys: usize, work: &mut [u32]) -> Turn
     ensures { λ r. ⌜ Back (take keys (now (records .entry))) hand (now (work .entry)) r (now (work .exit)) ⌝ }
 {
     if hand.waiting == 0 {
-        return Turn::Done(hand);
+        return Turn::Done(Counts {
+            reached: hand.reached,
+            taken: hand.taken,
+            height: hand.height,
+        });
     }
     let waiting = hand.waiting - 1;
     let top = stack::item_at(work, waiting);

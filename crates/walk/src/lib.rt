@@ -19,9 +19,16 @@ pub struct Hand {
     pub height: u32,
 }
 
-// What taking an item comes to: the next one in hand; none is left; or a refusal.
+// What a walk has counted: the instructions entered, the items taken, and the largest number of operands.
+pub struct Counts {
+    pub reached: u64,
+    pub taken: u64,
+    pub height: u32,
+}
+
+// What taking an item comes to: the next one in hand; none is left, and these are the counts; or a refusal.
 pub enum Turn {
     Next(Hand),
-    Done(Hand),
+    Done(Counts),
     Refused(Answer),
 }

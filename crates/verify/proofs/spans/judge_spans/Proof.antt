@@ -13,6 +13,7 @@ use Rattle.opening.specs.Ready.{Ready, Marked}
 use Rattle.rules.specs.Chunk.{judgeChunk, redeclared}
 use Rattle.rules.specs.Script.{Script, Span, script}
 use Rattle.rules.specs.declared.Answer.{Answer}
+use Rattle.walk.specs.declared.Counts.{Counts}
 use Rattle.walk.specs.declared.Hand.{Hand}
 use Rattle.walk.specs.declared.Turn.the-variants.{Next, Done, Refused}
 use Rattle.walk.specs.Units.{spanOf, turnOf, GoesOn, Ends, Stops}
@@ -129,7 +130,7 @@ module _ (t : tie.After-slice-known7 Inv-items μ-items Inv-call μ-call) where
     goes-on : GoesOn (S (i .before .before .before .before .before .before .before .before .before .before .before .before .before .before .before .before)) (room (i .before .before .before .before)) (turnOf (S (i .before .before .before .before .before .before .before .before .before .before .before .before .before .before .before .before)) (room (i .before .before .before .before)) (i .items .hand) (i .items .records) (i .items .work)) next (t .before .before .before .before .take-item .last .1 .1 .1 .1 .1 .1 .1 .1 .1 .1 .1 .0) (t .before .before .before .before .take-item .last .1 .1 .1 .1 .1 .1 .1 .1 .1 .1 .1 .1 .0)
     goes-on = took-next _ _ (i .items .hand) (i .items .records) (i .items .work) (t .before .before .before .before .take-item .result) _ _ (t .before .before .before .before .take-item .ensures) e
 
-  module _ {last : Hand} (e : t .before .before .before .before .take-item .result ≡ Done last) where
+  module _ {last : Counts} (e : t .before .before .before .before .take-item .result ≡ Done last) where
     ends : Ends (S (i .before .before .before .before .before .before .before .before .before .before .before .before .before .before .before .before)) (room (i .before .before .before .before)) (turnOf (S (i .before .before .before .before .before .before .before .before .before .before .before .before .before .before .before .before)) (room (i .before .before .before .before)) (i .items .hand) (i .items .records) (i .items .work)) last (t .before .before .before .before .take-item .last .1 .1 .1 .1 .1 .1 .1 .1 .1 .1 .1 .0) (t .before .before .before .before .take-item .last .1 .1 .1 .1 .1 .1 .1 .1 .1 .1 .1 .1 .0)
     ends = took-done _ _ (i .items .hand) (i .items .records) (i .items .work) (t .before .before .before .before .take-item .result) _ _ (t .before .before .before .before .take-item .ensures) e
 
