@@ -31,13 +31,6 @@ key-slot slot keys word place e = ltb-true slot keys (first-holds _ _ e)
 
 -- ---- jumps
 
--- the number of a target's key is no more than the target
-pub slot-low : (ks ts : List ℕ) {k target slot : ℕ} → Rising ks → AllKeys ks ts → k < length ts → target ≡ getD ts k 0 → slot ≡ below ks target
-    → slot ≤ target
-slot-low ks ts {k} {target} rises all h e place =
-    let there = found ks target rises (all .each target (rw e (at-in ts k h))) in
-    omega (arith, there .1, key-high ks (below ks target) rises (there .0))
-
 module _ (ks ts : List ℕ) (d : Depths) (waiting : ℕ) (before : List ℕ) where
   -- the first k are pushed, and pushing the others comes to pushing all
   pub record Pushing (work : List ℕ) (k : ℕ) : Type 0 where
@@ -52,8 +45,8 @@ module _ (ks ts : List ℕ) (d : Depths) (waiting : ℕ) (before : List ℕ) whe
       → slot ≡ below ks target
       → work′ ≡ put work (waiting + k) (record { slot = slot; depths = d }) → Pushing work′ (k + 1)
   unfolding putAll
-  one-pushed {work} {work′} {k} slot p h e place w = record {
-    rest = rw (w, shift, place, e) next;
+  one-pushed {work} {work′} {k} slot p h e found w = record {
+    rest = rw (w, shift, found, e) next;
     long = ap length w ∙ length-put work (waiting + k) _ ∙ p .long;
     upto = omega arith;
   }
@@ -66,6 +59,12 @@ module _ (ks ts : List ℕ) (d : Depths) (waiting : ℕ) (before : List ℕ) whe
 
       next : putAll (put work (waiting + k) (record { slot = below ks (getD ts k 0); depths = d })) (waiting + k + 1) (waitingTo ks d (drop (k + 1) ts)) ≡ putAll before waiting (waitingTo ks d ts)
       next = rw one-more (ap (λ (js : List ℕ). putAll work (waiting + k) (waitingTo ks d js)) (sym (drop-cons ts k 0 h)) ∙ p .rest)
+
+  -- the number of a target's key is no more than the target
+  pub slot-low : {k target slot : ℕ} → Rising ks → AllKeys ks ts → k < length ts → target ≡ getD ts k 0 → slot ≡ below ks target → slot ≤ target
+  slot-low {k} {target} {slot} rises all h e found-at =
+      let there = found ks target rises (all .each target (rw e (at-in ts k h))) in
+      omega (arith, there .1, key-high ks (below ks target) rises (there .0))
 
   pub all-pushed : {work : List ℕ} {k : ℕ} (r : ℕ) → Pushing work k → length ts ≤ k → r ≡ waiting + length ts → Pushed ks ts d waiting before r work
   unfolding putAll

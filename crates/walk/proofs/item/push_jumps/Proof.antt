@@ -64,7 +64,7 @@ cast-put : tie.Need-cast-put Inv-loop μ-loop
 cast-put c =
     let p = c .before .before .before .before in
     let one : p .loop .k < length (ts p) = omega (arith, counted p, c .before .before .before .loop-test .taken) in
-    omega (arith, slot-low (ks p) (ts p) (rises p) (all-keys p) one (c .before .before .jump-target .ensures) (c .before .find .ensures))
+    omega (arith, slot-low (ks p) (ts p) (start p .args .d) (start p .args .waiting) (now (start p .args .work)) (rises p) (all-keys p) one (c .before .before .jump-target .ensures) (c .before .find .ensures))
 
 put-requires : tie.Need-put-requires Inv-loop μ-loop
 put-requires c κs = let p = c .before .before .before .before in omega (arith, counted p, enough p, c .before .before .before .loop-test .taken, p .loop .inv .long)
