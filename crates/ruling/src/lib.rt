@@ -25,13 +25,13 @@ use rules::Depths;
 use rules::Effect;
 use rules::Outcome;
 
-// Where control goes from an instruction: the depths just after it, those at each of its targets, the place after it, and
-// whether control falls through to that place.
+// Where control goes from an instruction: whether it falls through, the place after it, the depths just after it, and those at
+// each of its targets.
 pub struct Edges {
+    pub falls: bool,
+    pub next: u32,
     pub after: Depths,
     pub jumped: Depths,
-    pub next: u32,
-    pub falls: bool,
 }
 
 // What the rule of an instruction says: it denies with an answer, or gives the edges.
@@ -82,10 +82,10 @@ fn leave(flow: u32, effect: Effect, next: u32, end: u32, d: Depths) -> Ruling
     let jumped = rules::edges::jumped(flow, d, after);
     let falls = rules::edges::falls(flow);
     Ruling::Gives(Edges {
+        falls,
+        next,
         after,
         jumped,
-        next,
-        falls,
     })
 }
 

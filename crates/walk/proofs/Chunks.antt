@@ -23,15 +23,15 @@ use Rattle.rules.proofs.Keeps.{keeps-laws}
 use Rattle.rules.proofs.Slices.{next-goes-on, next-stops, stays-accepted, stays-refused}
 use Rattle.rules.proofs.Stores.{Tells, same-accepted, same-refused}
 use Rattle.rules.proofs.Turn.{Taken, again, enters, turn-is, taken-so}
-use Rattle.words.specs.Stack.{Clear}
+use Rattle.words.specs.Stack.{items, Clear}
+use Rattle.words.proofs.Items.{items-none}
 use Rattle.walk.specs.declared.Counts.{Counts}
 use Rattle.walk.specs.declared.Hand.{Hand}
 use Rattle.opening.specs.declared.Room.{Room}
 use Rattle.opening.specs.Records.{keys, laid}
 use Rattle.walk.specs.Records.{seenStore}
-use Rattle.walk.specs.Units.{itemOf, bookWith, bookOf, waitsIn, firstHand, spanOf, turnOf, Going, GoesOn, Ends}
+use Rattle.walk.specs.Units.{itemOf, bookWith, bookOf, firstHand, spanOf, turnOf, Going, GoesOn, Ends}
 use Rattle.walk.proofs.Store.{Fit, faithful, laid-fit, laid-empty}
-use Rattle.walk.proofs.Waits.{waits-none, none-numbered}
 
 measured-as : (declared : ℕ) (b : Book Log) {height reached taken : ℕ} → height ≡ b .height → reached ≡ b .reached → taken ≡ b .taken
     → measured declared (accepted b) ≡ cond (ltb declared height) (fails (StackExceedsDeclared height declared)) (passes height reached taken)
@@ -52,26 +52,25 @@ module _ (S : Script) (room : Room) (words rooms : ℕ) (B : BeforeWalk S (spanO
       → (h : Hand) → h ≡ firstHand (keys S span) (room .entry) → Going S room h records work
   unfolding run
   begins records work l e c h f = record {
-    ran = rw (f, waits-none (keys S span) work, l, e) refl;
+    ran = rw (f, items-none work, l, e) refl;
     slot = rw f refl;
     clear = rw f c;
-    numbered = rw f (none-numbered (keys S span) work);
   }
 
   module _ (h : Hand) (records work : List ℕ) (l : length records ≡ words) (G : Going S room h records work) where
-    ran : walk (machine S span) (seenStore S span) (h .taken) (laid S span words) ≡ unfinished (itemOf h ∷ waitsIn (keys S span) work (h .waiting)) (bookOf h records)
+    ran : walk (machine S span) (seenStore S span) (h .taken) (laid S span words) ≡ unfinished (itemOf h ∷ items work (h .waiting)) (bookOf h records)
     ran = rw l at (G .ran)
 
     -- what a turn comes to decides how it was taken
     took : {t : Turn Answer (List ℕ)} → turnOf S room h records work ≡ t
-        → Taken (machine S span) (seenStore S span) (itemOf h) (waitsIn (keys S span) work (h .waiting)) (bookOf h records) t
+        → Taken (machine S span) (seenStore S span) (itemOf h) (items work (h .waiting)) (bookOf h records) t
     took e =
-        let way = taken-so (machine S span) (seenStore S span) (itemOf h) (waitsIn (keys S span) work (h .waiting)) (bookOf h records) in
-        subst (λ (t : Turn Answer (List ℕ)). Taken (machine S span) (seenStore S span) (itemOf h) (waitsIn (keys S span) work (h .waiting)) (bookOf h records) t)
-        (sym (turn-is (machine S span) (seenStore S span) (itemOf h) (waitsIn (keys S span) work (h .waiting)) (bookOf h records) (way .1)) ∙ e) (way .1)
+        let way = taken-so (machine S span) (seenStore S span) (itemOf h) (items work (h .waiting)) (bookOf h records) in
+        subst (λ (t : Turn Answer (List ℕ)). Taken (machine S span) (seenStore S span) (itemOf h) (items work (h .waiting)) (bookOf h records) t)
+        (sym (turn-is (machine S span) (seenStore S span) (itemOf h) (items work (h .waiting)) (bookOf h records) (way .1)) ∙ e) (way .1)
 
     one-more : {w : List Item} {b : Book (List ℕ)}
-        → Taken (machine S span) (seenStore S span) (itemOf h) (waitsIn (keys S span) work (h .waiting)) (bookOf h records) (goes-on w b) → b .taken ≡ h .taken + 1
+        → Taken (machine S span) (seenStore S span) (itemOf h) (items work (h .waiting)) (bookOf h records) (goes-on w b) → b .taken ≡ h .taken + 1
     one-more (again a) = refl
     one-more (enters f) = refl
 
@@ -88,7 +87,6 @@ module _ (S : Script) (room : Room) (words rooms : ℕ) (B : BeforeWalk S (spanO
                 ∙ next-goes-on (machine S span) (seenStore S span) (h .taken) (origin (machine S span) ∷ []) (blank (laid S span words)) ran t);
             slot = g .slot;
             clear = g .clear;
-            numbered = g .numbered;
           },
           count,
         )

@@ -1,6 +1,5 @@
 -- The laws that proofs cite.
 pub mod Store
-pub mod Waits
 pub mod Moment
 pub mod Parts
 pub mod Turns

@@ -22,20 +22,20 @@ use Rattle.rules.proofs.Once.{item-inside}
 use Rattle.rules.proofs.Sound.{sound-unfinished}
 use Rattle.rules.proofs.Stores.{Tells, same-unfinished, store-bounded, store-roomy}
 use Rattle.rules.proofs.Turn.{New}
+use Rattle.words.specs.Stack.{items}
+use Rattle.words.proofs.Items.{length-items}
 use Rattle.walk.specs.declared.Hand.{Hand}
 use Rattle.opening.specs.declared.Room.{Room}
-use Rattle.opening.specs.Records.{keys}
 use Rattle.walk.specs.Records.{seenStore}
-use Rattle.walk.specs.Units.{itemOf, bookOf, waitsIn, spanOf, Going}
+use Rattle.walk.specs.Units.{itemOf, bookOf, spanOf, Going}
 use Rattle.walk.proofs.Store.{Fit, faithful, laid-fit, laid-empty}
-use Rattle.walk.proofs.Waits.{length-waits}
 
 module _ (S : Script) (room : Room) (records work : List ℕ) (B : BeforeWalk S (spanOf room) (length records) (length work)) (h : Hand) (G : Going S room h records work) where
   abbrev span : Span
   span = spanOf room
 
   -- what the walk over the log knows of this moment
-  over-log : (l : Book Log) × (walk (machine S span) log (h .taken) [] ≡ unfinished (itemOf h ∷ waitsIn (keys S span) work (h .waiting)) l) × Tells (machine S span) (seenStore S span) (Fit S span (length records)) (bookOf h records) l
+  over-log : (l : Book Log) × (walk (machine S span) log (h .taken) [] ≡ unfinished (itemOf h ∷ items work (h .waiting)) l) × Tells (machine S span) (seenStore S span) (Fit S span (length records)) (bookOf h records) l
   over-log =
       same-unfinished (machine S span) (seenStore S span) (Fit S span (length records)) (faithful S span (length records) (B .records-room))
       (laid-fit S span (length records) (B .records-room)) (laid-empty S span (length records) (B .records-room)) (h .taken) (G .ran)
@@ -48,7 +48,7 @@ module _ (S : Script) (room : Room) (records work : List ℕ) (B : BeforeWalk S 
   in-chunk below =
       inside S span (item-inside (machine S span) (sound-unfinished (machine S span) (degree S) (keeps-laws S span B) (h .taken) (over-log .1) .holds .once) below)
 
-  bounds : Bounded (E S span) (length (chunkStarts S span)) (itemOf h ∷ waitsIn (keys S span) work (h .waiting)) (bookOf h records)
+  bounds : Bounded (E S span) (length (chunkStarts S span)) (itemOf h ∷ items work (h .waiting)) (bookOf h records)
   unfolding E
   bounds =
       store-bounded (machine S span) (seenStore S span) (Fit S span (length records)) (faithful S span (length records) (B .records-room))
@@ -68,7 +68,7 @@ module _ (S : Script) (room : Room) (records work : List ℕ) (B : BeforeWalk S 
   small =
       let at-most = bounds .shallow (itemOf h) (here refl) in
       record {
-        waits = omega (arith, bounds .room, length-waits (keys S span) work (h .waiting));
+        waits = omega (arith, bounds .room, length-items work (h .waiting));
         work-room = B .work-room;
         few = omega (arith, bounds .few, before-few widthOf (S .code) (span .end) (span .entry));
         operands = at-most .operands;
@@ -83,4 +83,4 @@ module _ (S : Script) (room : Room) (records work : List ℕ) (B : BeforeWalk S 
   roomy new =
       let r = store-roomy (machine S span) (seenStore S span) (Fit S span (length records)) (faithful S span (length records) (B .records-room))
       (laid-fit S span (length records) (B .records-room)) (laid-empty S span (length records) (B .records-room)) (h .taken) (keeps-laws S span B) (G .ran) new in
-      omega (arith, r .room, length-waits (keys S span) work (h .waiting))
+      omega (arith, r .room, length-items work (h .waiting))

@@ -4,7 +4,8 @@ use mathlib.Core.List.{List}
 use mathlib.Core.Option.{none, some}
 use mathlib.Core.Path.{_≡_, refl, sym, _∙_, subst}
 use Prim.Native.Nat.{ℕ, _+_, _≤_, _<_}
-use lib.ListN.{length, take}
+use native.Mathlib.Omega.{arith}
+use lib.ListN.{length, take, length-map}
 use Rattle.rules.specs.declared.Answer.{Answer}
 use Rattle.rules.specs.declared.Answer.the-variants.{FallsOffTheEnd, DepthConflict}
 use Rattle.rules.specs.declared.Depths.{Depths}
@@ -20,32 +21,29 @@ use Rattle.rules.proofs.Lists.{zero≢one}
 use Rattle.rules.proofs.Turn.{is-off, clashes, again, refuses, turn-is}
 use Rattle.ruling.specs.declared.Edges.{Edges}
 use Rattle.ruling.specs.Ruling.{edgesOf}
-use Rattle.words.specs.declared.stack.Waiting.{Waiting}
-use Rattle.words.specs.Stack.{putAll, Clear}
+use Rattle.words.specs.Stack.{items, putAll, Clear}
+use Rattle.words.proofs.Items.{items-none, items-putAll, clear-putAll}
 use Rattle.walk.specs.declared.Hand.{Hand}
 use Rattle.opening.specs.declared.Room.{Room}
 use Rattle.walk.specs.declared.Turn.{Turn}
 use Rattle.walk.specs.declared.Turn.the-variants.{Next, Done, Refused}
 use Rattle.opening.specs.Records.{keys}
-use Rattle.opening.proofs.Targets.{keys-rise}
 use Rattle.walk.specs.Records.{seenStore}
-use Rattle.walk.specs.Units.{itemOf, bookOf, waitsIn, Numbered, AllKeys, jumpsTo, waitingTo, droppedHand, enteredHand, Leaves, Left, Back, spanOf, turnOf, AtItem, Unseen, Comes, Took}
-use Rattle.walk.proofs.Turns.{front, noted-so, targets-keys, entered-turn}
-use Rattle.walk.proofs.Waits.{waits-none, waits-pushed, clear-pushed, all-numbered}
+use Rattle.walk.specs.Units.{itemOf, bookOf, jumpsTo, droppedHand, enteredHand, Leaves, Left, Back, spanOf, turnOf, AtItem, Unseen, Comes, Took}
+use Rattle.walk.proofs.Turns.{front, noted-so, entered-turn}
 
 module _ (S : Script) (room : Room) where
   -- a turn that goes on with what waits, where the item pushed last was then taken back
   pub back-comes : {t : definition.Turn Answer (List ℕ)} (records work : List ℕ) {records₁ : List ℕ} (work₁ : List ℕ) (work₂ : List ℕ) (in-hand : Hand) (r : Turn)
-      → t ≡ goes-on (waitsIn (keys S (spanOf room)) work₁ (in-hand .waiting)) (bookOf in-hand records₁) → Clear work₁ (in-hand .waiting)
+      → t ≡ goes-on (items work₁ (in-hand .waiting)) (bookOf in-hand records₁) → Clear work₁ (in-hand .waiting)
       → Back (keys S (spanOf room)) in-hand work₁ r work₂ → Comes S room t records work r records₁ work₂
   back-comes records work work₁ work₂ in-hand (Next following) e c b = record {
     turned = e ∙ rw (b .waits, b .reached, b .taken, b .height) refl;
     slot = b .slot;
     clear = b .clear;
-    numbered = b .numbered;
   }
   back-comes records work work₁ work₂ in-hand (Done last) e c b = record {
-    turned = e ∙ rw (b .counts, b .waits, waits-none (keys S (spanOf room)) work₁) refl;
+    turned = e ∙ rw (b .counts, b .waits, items-none work₁) refl;
     clear = rw (b .words) (rw (b .waits) at c);
   }
   back-comes records work work₁ work₂ in-hand (Refused a) e c b = absurd b
@@ -57,12 +55,12 @@ module _ (S : Script) (room : Room) (h : Hand) (marks records work : List ℕ) (
   -- ---- at the end, and at a place seen before
 
   pub off-turn : room .end ≤ h .place → turnOf S room h records work ≡ stops FallsOffTheEnd
-  off-turn l = turn-is (machine S (spanOf room)) (seenStore S (spanOf room)) (itemOf h) (waitsIn (keys S (spanOf room)) work (h .waiting)) (bookOf h records) (refuses (is-off l))
+  off-turn l = turn-is (machine S (spanOf room)) (seenStore S (spanOf room)) (itemOf h) (items work (h .waiting)) (bookOf h records) (refuses (is-off l))
 
   module _ (below-end : h .place < room .end) (d : Depths) (s : seen (machine S (spanOf room)) (seenStore S (spanOf room)) (h .place) records ≡ some d) where
-    dropped-turn : agree d (h .depths) ≡ true → turnOf S room h records work ≡ goes-on (waitsIn (keys S (spanOf room)) work (h .waiting)) (bookOf (droppedHand h) records)
+    dropped-turn : agree d (h .depths) ≡ true → turnOf S room h records work ≡ goes-on (items work (h .waiting)) (bookOf (droppedHand h) records)
     dropped-turn e =
-        turn-is (machine S (spanOf room)) (seenStore S (spanOf room)) (itemOf h) (waitsIn (keys S (spanOf room)) work (h .waiting)) (bookOf h records)
+        turn-is (machine S (spanOf room)) (seenStore S (spanOf room)) (itemOf h) (items work (h .waiting)) (bookOf h records)
         (again (record { below = below-end; found = rw (agree-true d (h .depths) e) at s }))
 
     pub dropped-took : agree d (h .depths) ≡ true → {in-hand : Hand} → in-hand ≡ droppedHand h → (r : Turn) (work′ : List ℕ)
@@ -73,7 +71,7 @@ module _ (S : Script) (room : Room) (h : Hand) (marks records work : List ℕ) (
 
     pub clash-turn : agree d (h .depths) ≡ false → turnOf S room h records work ≡ stops (DepthConflict (h .place) d (h .depths))
     clash-turn e =
-        turn-is (machine S (spanOf room)) (seenStore S (spanOf room)) (itemOf h) (waitsIn (keys S (spanOf room)) work (h .waiting)) (bookOf h records)
+        turn-is (machine S (spanOf room)) (seenStore S (spanOf room)) (itemOf h) (items work (h .waiting)) (bookOf h records)
         (refuses (clashes below-end s (λ same. zero≢one (cc (agree-refl d)))))
 
   -- ---- at a new place
@@ -86,33 +84,24 @@ module _ (S : Script) (room : Room) (h : Hand) (marks records work : List ℕ) (
     js : List Item
     js = jumpsTo (jumped S (h .place) (h .depths)) (targets S (h .place))
 
-    ws : List Waiting
-    ws = waitingTo (keys S (spanOf room)) (jumped S (h .place) (h .depths)) (targets S (h .place))
+    count : length js ≡ length (targets S (h .place))
+    unfolding js
+    count = length-map (targets S (h .place)) (λ (t : ℕ). record { place = t; depths = jumped S (h .place) (h .depths) })
 
     in-hand : Hand
     in-hand = enteredHand h (after S (h .place) (h .depths) .operands) (h .waiting + length (targets S (h .place)))
 
     module _ (L : Leaves room h (next S (h .place)) (targets S (h .place)) records work) where
-      all-keys : AllKeys (keys S (spanOf room)) (targets S (h .place))
-      all-keys = targets-keys S room h marks records work A U e
+      pushed : items (putAll work (h .waiting) js) (h .waiting + length (targets S (h .place))) ≡ push js (items work (h .waiting))
+      pushed = rw (← count) (items-putAll js work (h .waiting) (omega (arith, count, L .jumps-room)))
 
-      pushed : waitsIn (keys S (spanOf room)) (putAll work (h .waiting) ws) (h .waiting + length (targets S (h .place)))
-          ≡ push js (waitsIn (keys S (spanOf room)) work (h .waiting))
-      unfolding js ws
-      pushed = waits-pushed _ (keys-rise S (spanOf room)) _ _ all-keys work (h .waiting) (L .jumps-room)
-
-      nothing-above : Clear (putAll work (h .waiting) ws) (h .waiting + length (targets S (h .place)))
-      unfolding ws
-      nothing-above = clear-pushed (keys S (spanOf room)) (jumped S (h .place) (h .depths)) (targets S (h .place)) work (h .waiting) (L .clear)
-
-      numbers : Numbered (keys S (spanOf room)) (putAll work (h .waiting) ws) (h .waiting + length (targets S (h .place)))
-      unfolding ws
-      numbers = all-numbered _ (keys-rise S (spanOf room)) _ _ all-keys work (h .waiting) (L .jumps-room) (A .going .numbered)
+      nothing-above : Clear (putAll work (h .waiting) js) (h .waiting + length (targets S (h .place)))
+      nothing-above = rw (← count) (clear-putAll js work (h .waiting) (L .clear))
 
       pub left-took : {edges : Edges} {r : Turn} {records′ work′ : List ℕ} → edges ≡ edgesOf S (h .place) (h .depths)
           → Left room h edges (targets S (h .place)) records work r records′ work′
           → Took S room h records work r records′ work′
-      unfolding js ws in-hand fallTo
+      unfolding js in-hand fallTo
       left-took {edges} {r} {records′} {work′} these given = go (falls (tagOf S (h .place))) refl
         where
           l : Left room h (edgesOf S (h .place) (h .depths)) (targets S (h .place)) records work r records′ work′
@@ -122,17 +111,16 @@ module _ (S : Script) (room : Room) (h : Hand) (marks records work : List ℕ) (
           same = l .words ∙ noted-so S room h marks records work A
 
           turned : (b : Bool) → falls (tagOf S (h .place)) ≡ b → turnOf S room h records work
-              ≡ goes-on (fallTo (next S (h .place)) (cond b (some (after S (h .place) (h .depths))) none) (push js (waitsIn (keys S (spanOf room)) work (h .waiting)))) (bookOf in-hand records′)
+              ≡ goes-on (fallTo (next S (h .place)) (cond b (some (after S (h .place) (h .depths))) none) (push js (items work (h .waiting)))) (bookOf in-hand records′)
           turned b q = rw (same, ← q) (entered-turn S room h marks records work A U e good)
 
           go : (b : Bool) → falls (tagOf S (h .place)) ≡ b → Took S room h records work r records′ work′
           go true q =
-              let g = rw (front S room h marks records work A) at (l .goes q) in
+              let g = l .goes q in
               subst (λ (t : Turn). Took S room h records work t records′ work′) (sym (g .0))
               (record {
                 turned = turned true q ∙ rw (g .1, pushed) refl;
-                slot = refl;
+                slot = rw (front S room h marks records work A) refl;
                 clear = rw (g .1) nothing-above;
-                numbered = rw (g .1) numbers;
               })
-          go false q = back-comes S room records work (putAll work (h .waiting) ws) work′ in-hand r (turned false q ∙ rw (← pushed) refl) nothing-above (rw (front S room h marks records work A) at (l .back q))
+          go false q = back-comes S room records work (putAll work (h .waiting) js) work′ in-hand r (turned false q ∙ rw (← pushed) refl) nothing-above (rw (front S room h marks records work A) at (l .back q))

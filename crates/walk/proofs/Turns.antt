@@ -12,31 +12,28 @@ use lib.ListN.{length, getD, take}
 use lib.Seq.{getD-take}
 use Rattle.code.specs.Layout.{among}
 use Rattle.code.specs.Width.{widthOf, widthAt}
-use Rattle.code.proofs.Among.{among-member}
 use Rattle.listing.specs.Listing.{Start}
 use Rattle.listing.proofs.Starts.{start-wide}
 use Rattle.order.specs.Order.{Rising, below}
 use Rattle.order.proofs.Laws.{below-mono}
 use Rattle.rules.specs.declared.Answer.{Answer}
-use Rattle.rules.specs.Depths.{Item}
 use Rattle.rules.specs.Edges.{degree, falls, targets, after, jumped, next}
 use Rattle.rules.specs.Machine.{denies, gives, fallTo}
 use Rattle.rules.specs.Rule.{machine, rule, judge}
 use Rattle.rules.specs.Script.{Script, Span, tagOf}
 use Rattle.rules.specs.Walk.{entered, goes-on, stops, firstBad, push, seen}
 use Rattle.rules.specs.Walk as definition
-use Rattle.rules.proofs.Inside.{outside}
-use Rattle.rules.proofs.Keeps.{keeps-laws}
-use Rattle.rules.proofs.Laws.{Passes, fair-at}
-use Rattle.rules.proofs.Lists.{zero≢one, ∈-map}
+use Rattle.rules.proofs.Laws.{Passes}
+use Rattle.rules.proofs.Lists.{zero≢one}
 use Rattle.rules.proofs.Turn.{New, is-denied, jumps-badly, enters, refuses, turn-is, seen-named, seen-other}
 use Rattle.words.specs.Seen.{seenAt, noteAt}
+use Rattle.words.specs.Stack.{items}
 use Rattle.words.proofs.Notes.{length-note}
 use Rattle.walk.specs.declared.Hand.{Hand}
 use Rattle.opening.specs.declared.Room.{Room}
 use Rattle.opening.specs.Records.{named, keys}
 use Rattle.walk.specs.Records.{slotOf, seenStore}
-use Rattle.walk.specs.Units.{itemOf, bookOf, waitsIn, AllKeys, jumpsTo, noted, Leaves, spanOf, turnOf, AtItem, Unseen}
+use Rattle.walk.specs.Units.{itemOf, bookOf, jumpsTo, noted, Leaves, spanOf, turnOf, AtItem, Unseen}
 use Rattle.walk.proofs.Moment.{fit, in-chunk, small, roomy}
 use Rattle.walk.proofs.Store.{take-note}
 use Rattle.opening.proofs.Targets.{few-keys, keys-rise, named-key, key-named, key-there, there-key}
@@ -158,10 +155,25 @@ module _ (S : Script) (room : Room) (h : Hand) (marks records work : List ℕ) (
     new : New (machine S span) (seenStore S span) (itemOf h) (bookOf h records)
     new = record { below = U .below-end; unseen = U .unseen }
 
+    pub leaves : length work < 2 ^ 64 → Leaves room h (next S (h .place)) (targets S (h .place)) records work
+    unfolding degree next
+    leaves f = record {
+      keys-room = keys-room;
+      notes-room = notes-room;
+      keys-behind = keys-behind;
+      rises = rises;
+      along = rw (front, A .going .slot) (below-mono ks (h .place) (next S (h .place)) (omega arith));
+      jumps-room = omega (arith, roomy S room records work (A .before) h (A .going) new, A .before .work-room);
+      clear = A .going .clear;
+      operands-fit = fitting .operands;
+      reached-fits = fitting .reached;
+      taken-fits = taken-fits f;
+    }
+
     -- ---- the ways out
 
     pub denied-turn : {a : Answer} → rule S span (h .place) (h .depths) ≡ denies a → turnOf S room h records work ≡ stops a
-    denied-turn e = turn-is (machine S span) (seenStore S span) (itemOf h) (waitsIn ks work (h .waiting)) (bookOf h records) (refuses (is-denied new e))
+    denied-turn e = turn-is (machine S span) (seenStore S span) (itemOf h) (items work (h .waiting)) (bookOf h records) (refuses (is-denied new e))
 
     module _ (e : rule S span (h .place) (h .depths)
         ≡ gives (after S (h .place) (h .depths) .operands) (cond (falls (tagOf S (h .place))) (some (after S (h .place) (h .depths))) none)
@@ -169,46 +181,17 @@ module _ (S : Script) (room : Room) (h : Hand) (marks records work : List ℕ) (
       passes : Passes (machine S span) (itemOf h)
       passes = record { post = _; fall = _; jumps = _; ruled = e }
 
-      -- each target is named, and so a key
-      pub targets-keys : AllKeys ks (targets S (h .place))
-      unfolding passes
-      targets-keys = record {
-        each = λ t m.
-            let fair = fair-at (keeps-laws S span (A .before)) (outside S span (in-chunk S room records work (A .before) h (A .going) (U .below-end))) passes in
-            among-member t ks (named-key S span t (fair .named (jumpTo t) (∈-map jumpTo (targets S (h .place)) m)));
-      }
-        where
-          jumpTo : ℕ → Item
-          jumpTo t = record { place = t; depths = jumped S (h .place) (h .depths) }
-
-      pub leaves : length work < 2 ^ 64 → Leaves room h (next S (h .place)) (targets S (h .place)) records work
-      unfolding degree next
-      leaves f = record {
-        keys-room = keys-room;
-        notes-room = notes-room;
-        keys-behind = keys-behind;
-        rises = rises;
-        along = rw (front, A .going .slot) (below-mono ks (h .place) (next S (h .place)) (omega arith));
-        jumps-room = omega (arith, roomy S room records work (A .before) h (A .going) new, A .before .work-room);
-        all-keys = rw front targets-keys;
-        clear = A .going .clear;
-        numbered = rw front (A .going .numbered);
-        operands-fit = fitting .operands;
-        reached-fits = fitting .reached;
-        taken-fits = taken-fits f;
-      }
-
       pub bad-turn : {a : Answer} → firstBad (judge S span (h .place)) (jumpsTo (jumped S (h .place) (h .depths)) (targets S (h .place))) ≡ some a
           → turnOf S room h records work ≡ stops a
       unfolding passes
-      bad-turn q = turn-is (machine S span) (seenStore S span) (itemOf h) (waitsIn ks work (h .waiting)) (bookOf h records) (refuses (jumps-badly new passes q))
+      bad-turn q = turn-is (machine S span) (seenStore S span) (itemOf h) (items work (h .waiting)) (bookOf h records) (refuses (jumps-badly new passes q))
 
       module _ (good : firstBad (judge S span (h .place)) (jumpsTo (jumped S (h .place) (h .depths)) (targets S (h .place))) ≡ none) where
         pub entered-turn : turnOf S room h records work
             ≡ goes-on (fallTo (next S (h .place)) (cond (falls (tagOf S (h .place))) (some (after S (h .place) (h .depths))) none)
-            (push (jumpsTo (jumped S (h .place) (h .depths)) (targets S (h .place))) (waitsIn ks work (h .waiting))))
+            (push (jumpsTo (jumped S (h .place) (h .depths)) (targets S (h .place))) (items work (h .waiting))))
             (entered (seenStore S span) (itemOf h) (after S (h .place) (h .depths) .operands) (bookOf h records))
         unfolding passes
         entered-turn =
-            turn-is (machine S span) (seenStore S span) (itemOf h) (waitsIn ks work (h .waiting)) (bookOf h records)
+            turn-is (machine S span) (seenStore S span) (itemOf h) (items work (h .waiting)) (bookOf h records)
             (enters (record { new = new; passes = passes; judged = good }))

@@ -1,7 +1,7 @@
 -- One item taken, in the code's words and in those of the walk. Document 01, "Order of the tests": "takes the work item pushed
 -- last".
 use mathlib.Core.Bool.{true, false, _&&_, cond}
-use mathlib.Core.List.{List, [], _∷_, _++_, map, List·Memᴰ}
+use mathlib.Core.List.{List, [], _∷_, _++_, map}
 use mathlib.Core.Option.{Option, none, some}
 use mathlib.Core.Path.{_≡_}
 use Prim.Native.Nat.{ℕ, _+_, _*_, _^_, _≤_, _<_, max}
@@ -22,8 +22,7 @@ use Rattle.ruling.specs.declared.Edges.{Edges}
 use Rattle.rules.specs.declared.Outcome.{Outcome}
 use Rattle.rules.specs.Answer.{told}
 use Rattle.words.specs.Seen.{noteAt}
-use Rattle.words.specs.declared.stack.Waiting.{Waiting}
-use Rattle.words.specs.Stack.{itemAt, items, putAll, Clear}
+use Rattle.words.specs.Stack.{items, putAll, Clear}
 use Rattle.walk.specs.declared.Counts.{Counts}
 use Rattle.walk.specs.declared.Hand.{Hand}
 use Rattle.opening.specs.declared.Room.{Room}
@@ -46,38 +45,16 @@ bookWith counts records = record { store = records; reached = counts .reached; t
 abbrev pub bookOf : Hand → (records : List ℕ) → Book (List ℕ)
 bookOf h records = bookWith (countsOf h) records
 
--- ---- what waits
-
--- an item that waits has the number of a key, and the place is that key
-abbrev pub placed : (keys : List ℕ) → Waiting → Item
-placed keys it = record { place = getD keys (it .slot) 0; depths = it .depths }
-
--- so many items that wait in work, the one pushed last first
-unfoldable pub waitsIn : (keys work : List ℕ) → ℕ → List Item
-waitsIn keys work n = map (placed keys) (items work n)
-
--- each of them has the number of a key: as keys rise, the places fix the words
-pub record Numbered (keys work : List ℕ) (n : ℕ) : Type 0 where
-  pub each : (i : ℕ) → i < n → itemAt work i .slot < length keys
-
 -- ---- the parts of a turn
 
--- each of these places is a key
-pub record AllKeys (keys places : List ℕ) : Type 0 where
-  pub each : (p : ℕ) → List·Memᴰ p places → List·Memᴰ p keys
-
--- a jump to each target, with the same depths,
+-- a jump to each target, with the same depths
 abbrev pub jumpsTo : Depths → List ℕ → List Item
 jumpsTo d targets = map (λ (t : ℕ). record { place = t; depths = d }) targets
 
--- and as it waits, under the number of its key
-abbrev pub waitingTo : (keys : List ℕ) → Depths → List ℕ → List Waiting
-waitingTo keys d targets = map (λ (t : ℕ). record { slot = below keys t; depths = d }) targets
-
 -- the jumps to these targets were pushed where so many items waited
-pub record Pushed (keys targets : List ℕ) (d : Depths) (waiting : ℕ) (work : List ℕ) (r : ℕ) (work′ : List ℕ) : Type 0 where
+pub record Pushed (targets : List ℕ) (d : Depths) (waiting : ℕ) (work : List ℕ) (r : ℕ) (work′ : List ℕ) : Type 0 where
   pub count : r ≡ waiting + length targets
-  pub pushed : work′ ≡ putAll work waiting (waitingTo keys d targets)
+  pub pushed : work′ ≡ putAll work waiting (jumpsTo d targets)
 
 -- control falls through to the next place
 abbrev pub fallen : (keys : List ℕ) → Hand → ℕ → Depths → Hand
@@ -93,13 +70,12 @@ fallen keys h next d = record {
 
 -- the item pushed last was taken, and its words cleared
 pub record TakenBack (keys : List ℕ) (h : Hand) (work : List ℕ) (next : Hand) (work′ : List ℕ) : Type 0 where
-  pub waits : waitsIn keys work (h .waiting) ≡ itemOf next ∷ waitsIn keys work′ (next .waiting)
+  pub waits : items work (h .waiting) ≡ itemOf next ∷ items work′ (next .waiting)
   pub reached : next .reached ≡ h .reached
   pub taken : next .taken ≡ h .taken
   pub height : next .height ≡ h .height
   pub slot : next .slot ≡ below keys (next .place)
   pub clear : Clear work′ (next .waiting)
-  pub numbered : Numbered keys work′ (next .waiting)
 
 -- there was none
 pub record NoneBack (h : Hand) (work : List ℕ) (last : Counts) (work′ : List ℕ) : Type 0 where
@@ -140,8 +116,8 @@ abbrev pub noted : Room → Hand → List ℕ → List ℕ
 noted room h records =
     cond (ltb (h .slot) (room .keys) && eqb (getD records (h .slot) 0) (h .place)) (noteAt records (room .base + h .slot * 3) (h .depths)) records
 
--- what leaving an instruction builds on: room for its note and its jumps, targets that are keys, a pointer that is not past the
--- next place, and numbers that fit
+-- what leaving an instruction builds on: room for its note and its jumps, a pointer that is not past the next place, and numbers
+-- that fit
 pub record Leaves (room : Room) (h : Hand) (next : ℕ) (targets records work : List ℕ) : Type 0 where
   pub keys-room : room .keys ≤ length records
   pub notes-room : room .base + room .keys * 3 ≤ length records
@@ -149,9 +125,7 @@ pub record Leaves (room : Room) (h : Hand) (next : ℕ) (targets records work : 
   pub rises : Rising (take (room .keys) records)
   pub along : h .slot ≤ below (take (room .keys) records) next
   pub jumps-room : (h .waiting + length targets) * 4 ≤ length work
-  pub all-keys : AllKeys (take (room .keys) records) targets
   pub clear : Clear work (h .waiting)
-  pub numbered : Numbered (take (room .keys) records) work (h .waiting)
   pub operands-fit : h .depths .operands + 1 < 2 ^ 32
   pub reached-fits : h .reached + 1 < 2 ^ 64
   pub taken-fits : h .taken + 1 < 2 ^ 64
@@ -161,10 +135,10 @@ pub record Left (room : Room) (h : Hand) (edges : Edges) (targets records work :
   pub words : records′ ≡ noted room h records
   pub goes : edges .falls ≡ true
       → (r ≡ Next (fallen (take (room .keys) records) (enteredHand h (edges .after .operands) (h .waiting + length targets)) (edges .next) (edges .after)))
-      × (work′ ≡ putAll work (h .waiting) (waitingTo (take (room .keys) records) (edges .jumped) targets))
+      × (work′ ≡ putAll work (h .waiting) (jumpsTo (edges .jumped) targets))
   pub back : edges .falls ≡ false
       → Back (take (room .keys) records) (enteredHand h (edges .after .operands) (h .waiting + length targets))
-      (putAll work (h .waiting) (waitingTo (take (room .keys) records) (edges .jumped) targets)) r work′
+      (putAll work (h .waiting) (jumpsTo (edges .jumped) targets)) r work′
 
 -- ---- a turn
 
@@ -176,15 +150,14 @@ module _ (S : Script) (room : Room) where
   -- one turn of the walk from the item in hand
   abbrev pub turnOf : Hand → (records work : List ℕ) → definition.Turn Answer (List ℕ)
   turnOf h records work =
-      turn (machine S (spanOf room)) (seenStore S (spanOf room)) (itemOf h) (waitsIn (keys S (spanOf room)) work (h .waiting)) (bookOf h records)
+      turn (machine S (spanOf room)) (seenStore S (spanOf room)) (itemOf h) (items work (h .waiting)) (bookOf h records)
 
   -- the walk has come to the item in hand, with these words of records and of work
   pub record Going (h : Hand) (records work : List ℕ) : Type 0 where
     pub ran : walk (machine S (spanOf room)) (seenStore S (spanOf room)) (h .taken) (laid S (spanOf room) (length records))
-        ≡ unfinished (itemOf h ∷ waitsIn (keys S (spanOf room)) work (h .waiting)) (bookOf h records)
+        ≡ unfinished (itemOf h ∷ items work (h .waiting)) (bookOf h records)
     pub slot : h .slot ≡ below (keys S (spanOf room)) (h .place)
     pub clear : Clear work (h .waiting)
-    pub numbered : Numbered (keys S (spanOf room)) work (h .waiting)
 
   -- what taking an item builds on: all that comes before the walk, and the walk so far
   pub record AtItem (h : Hand) (marks records work : List ℕ) : Type 0 where
@@ -202,10 +175,9 @@ module _ (S : Script) (room : Room) where
 
   -- what a turn comes to: the next item in hand, with what waits and what is noted in the words,
   pub record GoesOn (t : definition.Turn Answer (List ℕ)) (h : Hand) (records work : List ℕ) : Type 0 where
-    pub turned : t ≡ goes-on (itemOf h ∷ waitsIn (keys S (spanOf room)) work (h .waiting)) (bookOf h records)
+    pub turned : t ≡ goes-on (itemOf h ∷ items work (h .waiting)) (bookOf h records)
     pub slot : h .slot ≡ below (keys S (spanOf room)) (h .place)
     pub clear : Clear work (h .waiting)
-    pub numbered : Numbered (keys S (spanOf room)) work (h .waiting)
 
   -- no item is left,
   pub record Ends (t : definition.Turn Answer (List ℕ)) (last : Counts) (records work : List ℕ) : Type 0 where

@@ -11,7 +11,7 @@ ghost use Rattle.rules.specs.Edges.{targetsOf};
 ghost use Rattle.rules.specs.There.{SwitchThere};
 ghost use Rattle.words.specs.Seen.{told, seenAt, noteAt};
 ghost use Rattle.words.specs.Stack.{Clear};
-ghost use Rattle.walk.specs.Units.{AllKeys, Numbered, Pushed, fallen, Back, Leaves, Left};
+ghost use Rattle.walk.specs.Units.{Pushed, fallen, Back, Leaves, Left};
 ghost use Rattle.rules.specs.Script.{script};
 ghost use Rattle.walk.specs.Units.{droppedHand, enteredHand, AtItem, Unseen, Took};
 use crate::Counts;
@@ -66,8 +66,7 @@ fn note_at(records: &mut [u32], room: Room, slot: usize, place: u32, d: Depths)
     }
 }
 
-// Pushes an item for each target of the instruction at an offset, so many of them, in order, and tells how many wait then. Each
-// waits under the number of its key: it is looked up here, where searches do not wait for each other, and not when it is taken.
+// Pushes an item for each target of the instruction at an offset, so many of them, in order, and tells how many wait then.
 fn push_jumps(
     code: &[u8],
     at: usize,
@@ -77,26 +76,19 @@ fn push_jumps(
     count: usize,
     d: Depths,
     waiting: usize,
-    records: &[u32],
-    keys: usize,
     work: &mut [u32],
 ) -> usize
     requires { ⌜ 0 < widthAt (now code) at ⌝ }
     requires { ⌜ SwitchThere (now code) (now switches) (now cases) (now ranges) at ⌝ }
     requires { ⌜ count ≡ length (targetsOf (now code) (now switches) (now cases) (now ranges) at) ⌝ }
     requires { ⌜ (waiting + length (targetsOf (now code) (now switches) (now cases) (now ranges) at)) * 4 ≤ length (now work) ⌝ }
-    requires { ⌜ keys ≤ length (now records) ⌝ }
-    requires { ⌜ Rising (take keys (now records)) ⌝ }
-    requires { ⌜ AllKeys (take keys (now records)) (targetsOf (now code) (now switches) (now cases) (now ranges) at) ⌝ }
-    ensures { λ r. ⌜ Pushed (take keys (now (records .entry)))
-        (targetsOf (now (code .entry)) (now (switches .entry)) (now (cases .entry)) (now (ranges .entry)) at)
+    ensures { λ r. ⌜ Pushed (targetsOf (now (code .entry)) (now (switches .entry)) (now (cases .entry)) (now (ranges .entry)) at)
         d waiting (now (work .entry)) r (now (work .exit)) ⌝ }
 {
     let mut k = 0;
     while k < count {
         let target = rules::edges::jump_target(code, at, switches, cases, ranges, k);
-        let slot = order::find(records, keys, target);
-        stack::put(work, waiting + k, slot as u32, d);
+        stack::put(work, waiting + k, target, d);
         k += 1;
     }
     waiting + count
@@ -121,13 +113,12 @@ fn fall_to(hand: Hand, next: u32, d: Depths, records: &[u32], keys: usize) -> Ha
     }
 }
 
-// Takes the item pushed last, and clears its words. Its number is that of a key, and the key is its place.
+// Takes the item pushed last, and clears its words.
 fn take_back(hand: Hand, records: &[u32], keys: usize, work: &mut [u32]) -> Turn
     requires { ⌜ keys ≤ length (now records) ⌝ }
     requires { ⌜ Rising (take keys (now records)) ⌝ }
     requires { ⌜ hand .waiting * 4 ≤ length (now work) ⌝ }
     requires { ⌜ Clear (now work) (hand .waiting) ⌝ }
-    requires { ⌜ Numbered (take keys (now records)) (now work) (hand .waiting) ⌝ }
     ensures { λ r. ⌜ Back (take keys (now (records .entry))) hand (now (work .entry)) r (now (work .exit)) ⌝ }
 {
     if hand.waiting == 0 {
@@ -145,9 +136,9 @@ fn take_back(hand: Hand, records: &[u32], keys: usize, work: &mut [u32]) -> Turn
         handlers: 0,
     };
     stack::put(work, waiting, 0, none);
-    let slot = top.slot as usize;
-    let place = records[slot];
+    let place = top.place;
     let depths = top.depths;
+    let slot = order::find(records, keys, place);
     Turn::Next(Hand {
         place,
         depths,
@@ -236,8 +227,6 @@ fn leave(
         count,
         jumped,
         hand.waiting,
-        records,
-        room.keys,
         work,
     );
     let entered = enter_item(hand, after.operands, waiting);

@@ -42,7 +42,7 @@ module _ (p : tie.After-ruling2) where
   these = given-edges _ _ _ _ gives
 
   leaving : Leaves (opening (p .before .before .before .before) .args .room) h (next S (h .place)) (targets S (h .place)) (now (opening (p .before .before .before .before) .args .records)) (now (opening (p .before .before .before .before) .args .work))
-  leaving = leaves _ _ _ _ _ _ (opening (p .before .before .before .before) .pre .0) (opening (p .before .before .before .before) .pre .1) (given-rule _ _ _ _ gives) (omega (arith, opening (p .before .before .before .before) .good .1 .1 .1 .1 .1 .1 .1 .1 .1 .1 .1 .1 .0))
+  leaving = leaves _ _ _ _ _ _ (opening (p .before .before .before .before) .pre .0) (opening (p .before .before .before .before) .pre .1) (omega (arith, opening (p .before .before .before .before) .good .1 .1 .1 .1 .1 .1 .1 .1 .1 .1 .1 .1 .0))
 
   room-left : Leaves (opening (p .before .before .before .before) .args .room) h (p .ruling2 .given .0 .0 .next) (targets S (h .place)) (now (opening (p .before .before .before .before) .args .records)) (now (opening (p .before .before .before .before) .args .work))
   room-left = subst (λ (e : Edges). Leaves (opening (p .before .before .before .before) .args .room) h (e .next) (targets S (h .place)) (now (opening (p .before .before .before .before) .args .records)) (now (opening (p .before .before .before .before) .args .work))) (sym these) leaving

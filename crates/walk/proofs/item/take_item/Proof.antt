@@ -14,7 +14,7 @@ use Rattle.walk.specs.declared.Hand.{Hand}
 use Rattle.walk.specs.Records.{seenStore}
 use Rattle.walk.specs.Units.{spanOf, AtItem}
 use Rattle.walk.proofs.Took.{stopped, off-turn, dropped-took, clash-turn}
-use Rattle.walk.proofs.Turns.{front, rises, keys-room, notes-room, waits-room, taken-fits, seen-so}
+use Rattle.walk.proofs.Turns.{rises, keys-room, notes-room, waits-room, taken-fits, seen-so}
 use Rattle.walk.proofs.item.take_item.Statement.{statement}
 use Rattle.walk.proofs.item.take_item.Tie as tie
 
@@ -68,7 +68,7 @@ drop-item-requires c κs = taken-fits _ _ _ _ _ _ (A (c .before .before .before 
 take-back-requires : tie.Need-take-back-requires
 take-back-requires c κs =
     let a = A (c .before .before .before .before .before .before .before .before .before .before .before) in
-    (keys-room _ _ _ _ _ _ a, (rises _ _ _ _ _ _ a, (omega (arith, ap (λ (i : Hand). i .waiting) (c .before .before .drop-item .ensures), waits-room _ _ _ _ _ _ a), (rw (c .before .before .drop-item .ensures) (a .going .clear), rw (c .before .before .drop-item .ensures, front _ _ _ _ _ _ a) (a .going .numbered)))))
+    (keys-room _ _ _ _ _ _ a, (rises _ _ _ _ _ _ a, (omega (arith, ap (λ (i : Hand). i .waiting) (c .before .before .drop-item .ensures), waits-room _ _ _ _ _ _ a), rw (c .before .before .drop-item .ensures) (a .going .clear))))
 
 same-length : tie.Need-same-length
 same-length c = search needs
