@@ -36,7 +36,7 @@ use Rattle.rules.proofs.Lists.{zero≢one}
 use Rattle.verify.specs.Judging.{Judged, judgeAll, Judges}
 use Rattle.verify.specs.declared.spans.Judgement.{Judgement}
 use Rattle.verify.specs.declared.spans.Judgement.the-variants.{Passed as AllPass, Refused as Failed}
-use Rattle.verify.specs.Call.{Memory, BothClear, verdictOn, marksOn, Concludes, startBits, concluded, onward, outcome, result, Calls}
+use Rattle.verify.specs.Call.{Memory, BothClear, verdictOn, marksOn, startBits, concluded, onward, outcome, result, Calls}
 use Rattle.verify.specs.Demand.{ComesToChunks}
 use Rattle.verify.proofs.Accounts.{accounted}
 use Rattle.verify.proofs.Chain.{judge-passes, judge-fails}
@@ -95,6 +95,11 @@ pub zeros-still : {words : List ℕ} (n : ℕ) → words ≡ replicate n 0 → w
 zeros-still {words} n e = e ∙ ap (λ (k : ℕ). replicate k 0) (sym (ap length e ∙ length-replicate n 0))
 
 -- ---- the end
+
+-- a verdict and marks that follow from judged chunks
+pub record Concludes (judgement : Judgement) (marks : List ℕ) (r : Verdict) (marks′ : List ℕ) : Type 0 where
+  pub verdict : r ≡ verdictOn judgement marks
+  pub bits : marks′ ≡ marksOn judgement marks
 
 module _ {judgement : Judgement} {marks : List ℕ} {r : Verdict} where
   pub concludes-passed : {n reached taken : ℕ} → judgement ≡ AllPass reached taken → n ≡ total marks → r ≡ numbered noChunk (Accepted n reached taken) → Concludes judgement marks r marks

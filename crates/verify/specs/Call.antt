@@ -46,10 +46,6 @@ unfoldable pub marksOn : Judgement → (marks : List ℕ) → List ℕ
 marksOn (Passed reached taken) marks = marks
 marksOn (Refused chunk a) marks = replicate (length marks) 0
 
-pub record Concludes (judgement : Judgement) (marks : List ℕ) (r : Verdict) (marks′ : List ℕ) : Type 0 where
-  pub verdict : r ≡ verdictOn judgement marks
-  pub bits : marks′ ≡ marksOn judgement marks
-
 module _ (I : Input) (spans : List Span) (before : Memory) where
   -- after the first store: these marks and heights, and nothing in records and work
   abbrev pub stored : (marks heights : List ℕ) → Memory
