@@ -1,5 +1,4 @@
 -- What a case is lent: so many elements of each buffer, each of which holds the number 239.
-use Prim.Native.Nat.{ℕ}
 use lib.ListN.{replicate}
 use Rattle.replay.specs.declared.asking.Room.{Room}
 use Rattle.verify.specs.Call.{Memory}

@@ -3,12 +3,11 @@ use mathlib.Core.Bool.{true, false}
 use mathlib.Core.List.{List, [], _∷_}
 use mathlib.Core.Option.{none, some}
 use mathlib.Core.Path.{_≡_, refl, sym, ap, _∙_, subst}
-use Prim.Native.Nat.{ℕ, suc, _+_, _*_, _^_, _≤_, _<_}
+use Prim.Native.Nat.{ℕ, _+_, _*_, _^_, _≤_, _<_}
 use native.Mathlib.Decide.{decLe}
 use native.Mathlib.Omega.{arith}
 use borrow.Author.Tests.{le-leb, lt-leb, ltb-true, ltb-false}
-use lib.ListN.{length, set, drop, replicate, length-set, length-replicate, drop-of-length-le}
-use lib.Seq.{drop-cons}
+use lib.ListN.{length, set, replicate, length-replicate}
 use Rattle.before.specs.Before.{Test, beforeChunks}
 use Rattle.before.specs.Input.{Input}
 use Rattle.before.specs.Memory.{marksAfter, ForChunks}
@@ -33,7 +32,7 @@ use Rattle.verify.specs.Accounts.{chunkAt}
 use Rattle.verify.specs.Call.{Memory, BothClear, marksOn, Calls}
 use Rattle.verify.specs.Judging.{Judged, judgeAll, Judges}
 use Rattle.verify.specs.Stages.{opened, wordsOn, Begins, advanced, marksThen, Advances, Fits, Few, Asks, Takes, goesOn, finished}
-use Rattle.verify.proofs.Chain.{judge-passes, judge-fails, judge-none}
+use Rattle.verify.proofs.Chain.{judge-passes, judge-fails, judge-none, Judging, judging-first, judging-done, judging-fails, judging-passes}
 use Rattle.verify.proofs.Small.{small}
 use Rattle.verify.proofs.Whole.{bare, ready, untouched, zeroed-all, marked-so, starts-small, judged-call, zeros-still, concludes-passed, concludes-refused}
 
@@ -187,16 +186,16 @@ module _ (I : Input) (spans : List Span) (before : Memory) where
   abbrev holding : (marks heights records work : List ℕ) → Memory
   holding marks heights records work = record { marks = marks; heights = heights; records = records; work = work }
 
-  -- so many chunks are judged, and the call goes on: what is left is what there was from the start
+  -- so many chunks are judged, and the call goes on
   pub record OnTheWay (instructions reached taken number : ℕ) (marks heights records work : List ℕ) : Type 0 where
     passed : beforeChunks I (length (before .marks)) (length (before .heights)) ≡ none
     counted : instructions ≡ total marks
     bits : marks ≡ marksAfter I (length (before .heights)) (before .marks)
-    rest : judgeAll S words rooms (drop number spans) number reached taken heights ≡ all
-    long : length heights ≡ length (before .heights)
-    records-zero : records ≡ replicate words 0
-    work-zero : work ≡ replicate rooms 0
-    few : Few (Going instructions reached taken) number
+    judging : Judging S words rooms spans 0 (before .heights) heights records work number reached taken
+
+  -- the marks are those that everything before the chunks left
+  abbrev Begun : (marks : List ℕ) → Type 0
+  Begun marks = ForChunks I (length (before .heights)) (before .marks) Passed marks
 
   -- or it has ended
   abbrev pub Stands : State → (number : ℕ) → (marks heights records work : List ℕ) → Type 0
@@ -217,11 +216,7 @@ module _ (I : Input) (spans : List Span) (before : Memory) where
               passed = q;
               counted = refl;
               bits = b .bits;
-              rest = refl;
-              long = refl;
-              records-zero = b .records-on ∙ rw q refl;
-              work-zero = b .work-on ∙ rw q refl;
-              few = (omega arith, omega arith);
+              judging = judging-first S words rooms spans 0 (before .heights) records′ work′ (b .records-on ∙ rw q refl) (b .work-on ∙ rw q refl);
             })
         go (some a) q =
             let is : r ≡ Ended (numbered noChunk a) = b .state ∙ rw q refl in
@@ -248,15 +243,15 @@ module _ (I : Input) (spans : List Span) (before : Memory) where
 
   -- all chunks at once
   module _ (instructions reached taken : ℕ) (marks records work : List ℕ) (w : OnTheWay instructions reached taken 0 marks (before .heights) records work) where
-    begun : ForChunks I (length (before .heights)) (before .marks) Passed marks
+    begun : Begun marks
     unfolding told
     begun = record { answer = sym (w .passed); marks = w .bits }
 
     as-many : length records ≡ words
-    as-many = ap length (w .records-zero) ∙ length-replicate words 0
+    as-many = ap length (w .judging .records-zero) ∙ length-replicate words 0
 
     as-roomy : length work ≡ rooms
-    as-roomy = ap length (w .work-zero) ∙ length-replicate rooms 0
+    as-roomy = ap length (w .judging .work-zero) ∙ length-replicate rooms 0
 
     pub all-ask : I .chunks ≡ length spans
         → Ready S × (Marked marks (I .script .code) × ((records ≡ replicate (length records) 0) × ((work ≡ replicate (length work) 0)
@@ -264,7 +259,7 @@ module _ (I : Input) (spans : List Span) (before : Memory) where
     all-ask every =
         let is = established I _ _ (w .passed) in
         let lent = room I _ _ (w .passed) .heights-lent in
-        (ready I is, (marked-so I spans before begun refl, (zeros-still words (w .records-zero), (zeros-still rooms (w .work-zero), (omega (arith, is .kept .chunks), (omega arith, omega arith))))))
+        (ready I is, (marked-so I spans before begun refl, (zeros-still words (w .judging .records-zero), (zeros-still rooms (w .judging .work-zero), (omega (arith, is .kept .chunks), (omega arith, omega arith))))))
 
     module _ {judgement : Judgement} {heights′ records′ work′ : List ℕ}
         (j : Judges S (length records) (length work) spans 0 (before .heights) judgement heights′ records′ work′) where
@@ -276,7 +271,7 @@ module _ (I : Input) (spans : List Span) (before : Memory) where
           go (AllPass more further) q =
               let is = established I _ _ (w .passed) in
               let all-few = few-all S (length records) (length work) (ready I is) spans 0 0 0 (before .heights) more further (sym q) in
-              (omega (arith, all-few .0, w .few .0, is .kept .chunks), omega (arith, all-few .1, w .few .1, is .kept .chunks))
+              (omega (arith, all-few .0, w .judging .few-reached, is .kept .chunks), omega (arith, all-few .1, w .judging .few-taken, is .kept .chunks))
           go (Failed chunk a) q = tt
 
       pub all-judged : I .chunks ≡ length spans → {s s′ : State} {marks′ : List ℕ} → s ≡ Going instructions reached taken → Advances s judgement marks s′ marks′ → {v : Verdict} → v ≡ finished s′
@@ -289,8 +284,8 @@ module _ (I : Input) (spans : List Span) (before : Memory) where
 
           go : (o : Judgement) → judgement ≡ o → Calls I spans before v (holding marks′ heights′ records′ work′)
           go (AllPass more further) q =
-              let none-before : reached + more ≡ more = omega (arith, w .few .0) in
-              let none-taken : taken + further ≡ further = omega (arith, w .few .1) in
+              let none-before : reached + more ≡ more = omega (arith, w .judging .few-reached) in
+              let none-taken : taken + further ≡ further = omega (arith, w .judging .few-taken) in
               let so : s′ ≡ Going instructions more further = here .next ∙ rw (q, none-before, none-taken) refl in
               let kept : marks′ ≡ marks = here .bits ∙ rw q refl in
               rw kept (judged-call I spans before begun refl as-many as-roomy j (concludes-passed q (w .counted) (f ∙ rw so refl)) every)
@@ -302,20 +297,20 @@ module _ (I : Input) (spans : List Span) (before : Memory) where
     -- what taking a chunk asks
     pub stands-asks : I .chunks ≡ length spans → (state : State) → Stands state number marks heights records work → goesOn state number (length spans) ≡ true
         → Asks S number state marks heights records work
-    unfolding goesOn told
+    unfolding goesOn told Few
     stands-asks every (Going instructions reached taken) w e =
         let left = ltb-true number (length spans) e in
         let is = established I _ _ (w .passed) in
         let lent = room I _ _ (w .passed) .heights-lent in
-        let begun : ForChunks I (length (before .heights)) (before .marks) Passed marks = record { answer = sym (w .passed); marks = w .bits } in
+        let begun : Begun marks = record { answer = sym (w .passed); marks = w .bits } in
         record {
           ready = ready I is;
           marked = marked-so I spans before begun refl;
-          records-zero = zeros-still words (w .records-zero);
-          work-zero = zeros-still rooms (w .work-zero);
-          room = omega (arith, w .long);
+          records-zero = zeros-still words (w .judging .records-zero);
+          work-zero = zeros-still rooms (w .judging .work-zero);
+          room = omega (arith, w .judging .long);
           low = omega (arith, is .kept .chunks);
-          few = w .few;
+          few = (w .judging .few-reached, w .judging .few-taken);
         }
     stands-asks every (Ended verdict) w e = absurd (zero≢one (cc))
 
@@ -330,14 +325,14 @@ module _ (I : Input) (spans : List Span) (before : Memory) where
         left : number < length spans
         left = ltb-true number (length spans) e
 
-        here : drop number spans ≡ span ∷ drop (suc number) spans
-        here = drop-cons spans number (chunkAt [] number) left ∙ ap (λ (s : Span). s ∷ drop (suc number) spans) is
+        same-number : 0 + number ≡ number
+        same-number = omega arith
 
         as-many : length records ≡ words
-        as-many = ap length (w .records-zero) ∙ length-replicate words 0
+        as-many = ap length (w .judging .records-zero) ∙ length-replicate words 0
 
         as-roomy : length work ≡ rooms
-        as-roomy = ap length (w .work-zero) ∙ length-replicate rooms 0
+        as-roomy = ap length (w .judging .work-zero) ∙ length-replicate rooms 0
 
         k : Takes S words rooms span number (Going instructions reached taken) marks heights r marks′ heights′ records′ work′
         k = rw (as-many, as-roomy) at took
@@ -349,31 +344,22 @@ module _ (I : Input) (spans : List Span) (before : Memory) where
             let so : r ≡ Going instructions (reached + more) (taken + further) = k .advances .next ∙ rw one refl in
             let same-marks : marks′ ≡ marks = k .advances .bits ∙ rw one refl in
             let stored : heights′ ≡ set heights number height = k .measured ∙ rw one refl in
-            let one-more : number + 1 ≡ suc number = omega arith in
             rw so (record {
               passed = w .passed;
               counted = w .counted ∙ ap total (sym same-marks);
               bits = same-marks ∙ w .bits;
-              rest =
-                  rw stored
-                  (ap (λ (n : ℕ). judgeAll S words rooms (drop n spans) (number + 1) (reached + more) (taken + further) (set heights number height)) one-more
-                  ∙ sym (judge-passes S words rooms span (drop (suc number) spans) number reached taken heights q) ∙ rw (← here) (w .rest));
-              long = ap length stored ∙ length-set heights number height ∙ w .long;
-              records-zero = k .records-zero;
-              work-zero = k .work-zero;
-              few = (omega (arith, w .few .0, small-counts .few-reached), omega (arith, w .few .1, small-counts .few-taken));
+              judging =
+                  judging-passes S words rooms spans 0 (before .heights) (w .judging) left is q (small-counts .few-reached) (small-counts .few-taken) (rw same-number stored)
+                  (k .records-zero) (k .work-zero);
             })
         go (fails a) q =
             let one = one-fails S words rooms span number heights q in
             let so : r ≡ Ended (numbered number a) = k .advances .next ∙ rw one refl in
             let cleared : marks′ ≡ replicate (length marks) 0 = k .advances .bits ∙ rw one refl in
             let kept : heights′ ≡ heights = k .measured ∙ rw one refl in
-            let begun : ForChunks I (length (before .heights)) (before .marks) Passed marks = record { answer = sym (w .passed); marks = w .bits } in
-            let end : all ≡ record { answer = Failed number a; heights = heights } =
-            sym (w .rest) ∙ rw here (judge-fails S words rooms span (drop (suc number) spans) number reached taken heights q) in
-            rw so (judged-call I spans before begun refl refl refl
-            (record { answer = rw end refl; measured = kept ∙ rw end refl; records-zero = k .records-zero; work-zero = k .work-zero })
-            (concludes-refused refl refl cleared) every)
+            let begun : Begun marks = record { answer = sym (w .passed); marks = w .bits } in
+            let judged = rw same-number at (judging-fails S words rooms spans 0 (before .heights) (w .judging) left is q kept (k .records-zero) (k .work-zero)) in
+            rw so (judged-call I spans before begun refl refl refl judged (concludes-refused refl refl cleared) every)
     stands-next every (Ended verdict) w e span is took = absurd (zero≢one (cc))
 
     -- past the last
@@ -382,10 +368,6 @@ module _ (I : Input) (spans : List Span) (before : Memory) where
     unfolding goesOn finished told
     stands-done every (Going instructions reached taken) w e {r} f =
         let none-left = ltb-false number (length spans) e in
-        let begun : ForChunks I (length (before .heights)) (before .marks) Passed marks = record { answer = sym (w .passed); marks = w .bits } in
-        let end : all ≡ record { answer = AllPass reached taken; heights = heights } =
-        sym (w .rest) ∙ rw (drop-of-length-le spans {i = number} none-left) (judge-none S words rooms number reached taken heights) in
-        judged-call I spans before begun refl refl refl
-        (record { answer = rw end refl; measured = rw end refl; records-zero = w .records-zero; work-zero = w .work-zero })
-        (concludes-passed refl (w .counted) f) every
+        let begun : Begun marks = record { answer = sym (w .passed); marks = w .bits } in
+        judged-call I spans before begun refl refl refl (judging-done S words rooms spans 0 (before .heights) (w .judging) none-left) (concludes-passed refl (w .counted) f) every
     stands-done every (Ended verdict) w e f = rw f w

@@ -28,7 +28,7 @@ span-count (e ∷ entries) (n ∷ ends) (d ∷ declared) =
 abbrev pub spanAt : (entries ends declared : List ℕ) → ℕ → Span
 spanAt entries ends declared k = record { entry = getD entries k 0; end = getD ends k 0; declared = getD declared k 0 }
 
-span-there : (entries ends declared : List ℕ) (k : ℕ) → k < length (spansOf entries ends declared)
+pub span-there : (entries ends declared : List ℕ) (k : ℕ) → k < length (spansOf entries ends declared)
     → chunkAt (spansOf entries ends declared) k ≡ spanAt entries ends declared k
 unfolding spansOf
 span-there [] ends declared k h = absurd (not-suc-le-zero h)
@@ -86,10 +86,7 @@ module _ (S : Script) (records work : ℕ) where
 
   -- ---- the loop
 
-  module _ (entries ends declared : List ℕ) (first : ℕ) (before : List ℕ) where
-    abbrev spans : List Span
-    spans = spansOf entries ends declared
-
+  module _ (spans : List Span) (first : ℕ) (before : List ℕ) where
     pub record Judging (heights r w : List ℕ) (at reached taken : ℕ) : Type 0 where
       pub rest : judgeAll S records work (drop at spans) (first + at) reached taken heights ≡ judgeAll S records work spans first 0 0 before
       pub upto : at ≤ length spans
@@ -111,20 +108,20 @@ module _ (S : Script) (records work : ℕ) where
           sym (J .rest) ∙ rw (drop-of-length-le spans {i = at} h) (judge-none (first + at) reached taken heights) in
           record { answer = rw all refl; measured = rw all refl; records-zero = J .records-zero; work-zero = J .work-zero }
 
-      module _ (h : at < length spans) where
-        here : drop at spans ≡ spanAt entries ends declared at ∷ drop (suc at) spans
-        here = chunk-next spans at h ∙ ap (λ (s : Span). s ∷ drop (suc at) spans) (span-there entries ends declared at h)
+      module _ (h : at < length spans) {span : Span} (is : chunkAt spans at ≡ span) where
+        here : drop at spans ≡ span ∷ drop (suc at) spans
+        here = chunk-next spans at h ∙ ap (λ (s : Span). s ∷ drop (suc at) spans) is
 
-        pub judging-fails : {a : Answer} → judgeChunk S (spanAt entries ends declared at) records work ≡ fails a
+        pub judging-fails : {a : Answer} → judgeChunk S span records work ≡ fails a
             → {heights′ r′ w′ : List ℕ} → heights′ ≡ heights → r′ ≡ replicate records 0 → w′ ≡ replicate work 0
             → Judges S records work spans first before (Refused (first + at) a) heights′ r′ w′
         judging-fails {a} e same z v =
             let all : judgeAll S records work spans first 0 0 before ≡ record { answer = Refused (first + at) a; heights = heights } =
-            sym (J .rest) ∙ rw here (judge-fails (spanAt entries ends declared at) (drop (suc at) spans) (first + at) reached taken heights e) in
+            sym (J .rest) ∙ rw here (judge-fails span (drop (suc at) spans) (first + at) reached taken heights e) in
             record { answer = rw all refl; measured = same ∙ rw all refl; records-zero = z; work-zero = v }
 
         pub judging-passes : {height more-reached more-taken : ℕ}
-            → judgeChunk S (spanAt entries ends declared at) records work ≡ passes height more-reached more-taken
+            → judgeChunk S span records work ≡ passes height more-reached more-taken
             → more-reached ≤ 2 ^ 17 → more-taken ≤ 2 ^ 40 → {heights′ r′ w′ : List ℕ} → heights′ ≡ set heights (first + at) height
             → r′ ≡ replicate records 0 → w′ ≡ replicate work 0
             → Judging heights′ r′ w′ (at + 1) (reached + more-reached) (taken + more-taken)
@@ -132,7 +129,7 @@ module _ (S : Script) (records work : ℕ) where
             let next : first + (at + 1) ≡ first + at + 1 = omega arith in
             let one-more : at + 1 ≡ suc at = omega arith in
             record {
-              rest = rw (next, one-more, stored) (sym (judge-passes (spanAt entries ends declared at) (drop (suc at) spans) (first + at) reached taken heights e) ∙ rw (← here) (J .rest));
+              rest = rw (next, one-more, stored) (sym (judge-passes span (drop (suc at) spans) (first + at) reached taken heights e) ∙ rw (← here) (J .rest));
               upto = omega arith;
               long = ap length stored ∙ length-set heights (first + at) height ∙ J .long;
               records-zero = z;

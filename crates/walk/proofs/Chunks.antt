@@ -12,7 +12,7 @@ use Rattle.rules.specs.declared.Answer.{Answer}
 use Rattle.rules.specs.declared.Answer.the-variants.{StackExceedsDeclared}
 use Rattle.rules.specs.Chunk.{passes, fails, measured, walked, judgeChunk, redeclared, BeforeWalk}
 use Rattle.rules.specs.Depths.{Item}
-use Rattle.rules.specs.Edges.{T, E}
+use Rattle.rules.specs.Edges.{E}
 use Rattle.rules.specs.Machine.{origin}
 use Rattle.rules.specs.Rule.{machine, rule, judge}
 use Rattle.rules.specs.Script.{Script, Span}

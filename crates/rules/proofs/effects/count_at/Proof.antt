@@ -2,7 +2,6 @@
 use mathlib.Core.Path.{_∙_}
 use Prim.Native.Nat.{_+_, _/_, _%_}
 use native.Mathlib.Omega.{arith}
-use borrow.Author.Needs.{needs}
 use Rattle.rules.proofs.CountPlaces.{Placed, count-none, count-byte, byte-there, count-word, word-there}
 use Rattle.rules.proofs.Operands.{tag-there}
 use Rattle.rules.proofs.effects.count_at.Statement.{statement}

@@ -1,11 +1,11 @@
 -- `rules::effects::effect` meets its contract: a CHAIN's operands stand in its table, any other's effect in its tag's word.
 use mathlib.Core.Path.{ap}
-use Prim.Native.Nat.{ℕ, _+_, _*_, _≤_, _/_}
+use Prim.Native.Nat.{ℕ, _+_, _*_, _≤_}
 use native.Mathlib.Omega.{arith}
 use borrow.Author.Needs.{needs}
 use lib.ListN.{length, getD}
 use Rattle.pools.specs.Pools.{chainAt}
-use Rattle.rules.proofs.Amounts.{part-small, chain-acts, word-acts}
+use Rattle.rules.proofs.Amounts.{chain-acts, word-acts}
 use Rattle.rules.proofs.Operands.{tag-there, chain-there}
 use Rattle.rules.proofs.effects.effect.Statement.{statement}
 use Rattle.rules.proofs.effects.effect.Tie as tie

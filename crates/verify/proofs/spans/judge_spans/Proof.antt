@@ -18,7 +18,7 @@ use Rattle.walk.specs.declared.Hand.{Hand}
 use Rattle.walk.specs.declared.Turn.the-variants.{Next, Done, Refused}
 use Rattle.walk.specs.Units.{spanOf, turnOf, GoesOn, Ends, Stops}
 use Rattle.verify.specs.Judging.{spansOf}
-use Rattle.verify.proofs.Chain.{span-count, span-within, Judging, judging-first, judging-done, judging-fails, judging-passes}
+use Rattle.verify.proofs.Chain.{span-count, span-there, span-within, Judging, judging-first, judging-done, judging-fails, judging-passes}
 use Rattle.verify.proofs.Walking.{few-edges, Walking, opens-refused, opens-ready, took-next, took-done, took-refused, opened-rises, opened-keys, first-walking-here, judged-here}
 use Rattle.verify.proofs.Walking.{records-long as opened-records, work-long as opened-work, lent, walking-on, few-taken, used-room, waits-within, stopped-zero, stopped-judged, ended-judged, ended-few, ended-records, ended-work, closed-well, closed-above}
 use Rattle.verify.proofs.spans.judge_spans.Statement.{statement}
@@ -34,7 +34,7 @@ abbrev μ-items : tie.MeasureT-items
 
 abbrev Inv-call : tie.InvT-call
 Inv-call rights names chains steps switches cases ranges code entries ends declared first marks heights₀ records₀ work₀ count at₀ reached₀ taken₀ heights records work at reached taken =
-    Judging (script rights names chains steps switches cases ranges code) (length records₀) (length work₀) entries ends declared first heights₀ heights records work at reached taken
+    Judging (script rights names chains steps switches cases ranges code) (length records₀) (length work₀) (spansOf entries ends declared) first heights₀ heights records work at reached taken
 
 abbrev μ-call : tie.MeasureT-call
 μ-call rights names chains steps switches cases ranges code entries ends declared first marks heights₀ records₀ work₀ count at₀ reached₀ taken₀ heights records work at reached taken =
@@ -144,7 +144,7 @@ least-requires c κs = search needs
 call-holds : tie.Need-call-holds Inv-items μ-items Inv-call μ-call
 call-holds c =
     let start = c .before .before .before .before .before .before .before .before .before .before .before .before .before .before .before in
-    judging-first _ _ _ _ _ _ _ _ _ _ (start .pre .1 .1 .0) (start .pre .1 .1 .1 .0)
+    judging-first _ _ _ _ _ _ _ _ (start .pre .1 .1 .0) (start .pre .1 .1 .1 .0)
 
 same-length : tie.Need-same-length Inv-items μ-items Inv-call μ-call
 same-length c = c .before .call .inv .long
@@ -156,7 +156,7 @@ same-length-3 : tie.Need-same-length-3 Inv-items μ-items Inv-call μ-call
 same-length-3 c = work-long (c .before)
 
 returns : tie.Need-returns Inv-items μ-items Inv-call μ-call
-returns c = judging-done _ _ _ _ _ _ _ _ (c .before .call .inv) (omega (arith, counted (c .before), c .if1 .taken))
+returns c = judging-done _ _ _ _ _ _ (c .before .call .inv) (omega (arith, counted (c .before), c .if1 .taken))
 
 cast-number : tie.Need-cast-number Inv-items μ-items Inv-call μ-call
 cast-number c = omega (arith, here c, few-spans (c .before))
@@ -263,7 +263,7 @@ call-again c =
     let g = ends (c .before .before .before .before .before .before .before .before .before .before .before .before .before .before .before) (c .before .before .before .before .before .before .before .before .before .before .before .before .before .turn2 .given .1) in
     let few = ended-few W g in
     let closed = closed-well (c .before .before .before .before .before .before .before .before .close-chunk .ensures) (c .before .before .enum-told .given .1) in
-    judging-passes _ _ _ _ _ _ _ _ (c .before .before .before .before .before .before .before .before .before .before .before .before .before .before .before .before .before .before .before .before .before .before .before .before .before .before .before .before .before .before .before .before .before .before .before .before .before .before .call .inv) (here (c .before .before .before .before .before .before .before .before .before .before .before .before .before .before .before .before .before .before .before .before .before .before .before .before .before .before .before .before .before .before .before .before .before .before .before .before .before))
+    judging-passes _ _ _ _ _ _ (c .before .before .before .before .before .before .before .before .before .before .before .before .before .before .before .before .before .before .before .before .before .before .before .before .before .before .before .before .before .before .before .before .before .before .before .before .before .before .call .inv) (here (c .before .before .before .before .before .before .before .before .before .before .before .before .before .before .before .before .before .before .before .before .before .before .before .before .before .before .before .before .before .before .before .before .before .before .before .before .before)) (span-there _ _ _ _ (here (c .before .before .before .before .before .before .before .before .before .before .before .before .before .before .before .before .before .before .before .before .before .before .before .before .before .before .before .before .before .before .before .before .before .before .before .before .before)))
     (sym (judged (c .before .before .before .before .before .before .before .before .before .before .before .before .before .before .before .before .before .before .before .before .before .before .before .before .before .before) _) ∙ ended-judged W g _ ∙ rw (closed .low) refl)
     (omega (arith, few .reached, ready (c .before .before .before .before .before .before .before .before .before .before .before .before .before .before .before .before .before .before .before .before .before .before .before .before .before .before .before .before .before .before .before .before .before .before .before .before .before .before) .listable .small)) (omega (arith, few .taken, few-edges _ (ready (c .before .before .before .before .before .before .before .before .before .before .before .before .before .before .before .before .before .before .before .before .before .before .before .before .before .before .before .before .before .before .before .before .before .before .before .before .before .before)) _ (lent (walking (c .before .before .before .before .before .before .before .before .before .before .before .before .before .before .before .before .before .before .before .before .before .before))))) (closed .stored)
     (ended-records W g (records-kept (c .before .before .before .before .before .before .before .before .before .before .before .before .before .before .before) ∙ W .records-long) (c .before .before .before .before .before .before .before .before .close-chunk .ensures .records-zeroed))
@@ -272,7 +272,7 @@ call-again c =
 returns-2 : tie.Need-returns-2 Inv-items μ-items Inv-call μ-call
 returns-2 c =
     let refused = opens-refused _ _ _ _ _ _ _ (opens (c .before .before .before .before .before .before .before) _) (c .before .opened .given .1) in
-    judging-fails _ _ _ _ _ _ _ _ (c .before .before .before .before .before .before .before .before .before .before .before .before .before .call .inv) (here (c .before .before .before .before .before .before .before .before .before .before .before .before)) (refused .judged) refl (refused .records-cleared) (refused .work-cleared)
+    judging-fails _ _ _ _ _ _ (c .before .before .before .before .before .before .before .before .before .before .before .before .before .call .inv) (here (c .before .before .before .before .before .before .before .before .before .before .before .before)) (span-there _ _ _ _ (here (c .before .before .before .before .before .before .before .before .before .before .before .before))) (refused .judged) refl (refused .records-cleared) (refused .work-cleared)
 
 same-length-4 : tie.Need-same-length-4 Inv-items μ-items Inv-call μ-call
 same-length-4 c = search needs
@@ -288,7 +288,7 @@ returns-3 c =
     let W = walking (c .before .before .before .before .before .before .before .before .before .before .before .before .before .before .before .before .before) in
     let stopped = stops (c .before .before .before .before .before .before .before .before .before .before) (c .before .before .before .before .before .before .before .before .turn3 .given .1) in
     let zero = stopped-zero W (stopped .same-records) (stopped .same-work) (c .before .before .before .before .abandon .ensures) in
-    judging-fails _ _ _ _ _ _ _ _ (c .before .before .before .before .before .before .before .before .before .before .before .before .before .before .before .before .before .before .before .before .before .before .before .before .before .before .before .before .before .before .before .before .before .call .inv) (here (c .before .before .before .before .before .before .before .before .before .before .before .before .before .before .before .before .before .before .before .before .before .before .before .before .before .before .before .before .before .before .before .before)) (sym (judged (c .before .before .before .before .before .before .before .before .before .before .before .before .before .before .before .before .before .before .before .before .before) _) ∙ stopped-judged W (stopped .turned) _) refl (zero .0) (zero .1)
+    judging-fails _ _ _ _ _ _ (c .before .before .before .before .before .before .before .before .before .before .before .before .before .before .before .before .before .before .before .before .before .before .before .before .before .before .before .before .before .before .before .before .before .call .inv) (here (c .before .before .before .before .before .before .before .before .before .before .before .before .before .before .before .before .before .before .before .before .before .before .before .before .before .before .before .before .before .before .before .before)) (span-there _ _ _ _ (here (c .before .before .before .before .before .before .before .before .before .before .before .before .before .before .before .before .before .before .before .before .before .before .before .before .before .before .before .before .before .before .before .before))) (sym (judged (c .before .before .before .before .before .before .before .before .before .before .before .before .before .before .before .before .before .before .before .before .before) _) ∙ stopped-judged W (stopped .turned) _) refl (zero .0) (zero .1)
 
 same-length-7 : tie.Need-same-length-7 Inv-items μ-items Inv-call μ-call
 same-length-7 c = c .before .before .before .before .before .before .before .before .before .before .before .before .before .before .before .before .before .before .before .before .before .before .before .before .before .before .before .before .before .before .before .before .before .call .inv .long
@@ -304,7 +304,7 @@ returns-4 c =
     let W = walking (c .before .before .before .before .before .before .before .before .before .before .before .before .before .before .before .before .before .before .before .before .before) in
     let g = ends (c .before .before .before .before .before .before .before .before .before .before .before .before .before .before) (c .before .before .before .before .before .before .before .before .before .before .before .before .turn2 .given .1) in
     let above = closed-above (c .before .before .before .before .before .before .before .close-chunk .ensures) (c .before .closed .given .1) in
-    judging-fails _ _ _ _ _ _ _ _ (c .before .before .before .before .before .before .before .before .before .before .before .before .before .before .before .before .before .before .before .before .before .before .before .before .before .before .before .before .before .before .before .before .before .before .before .before .before .call .inv) (here (c .before .before .before .before .before .before .before .before .before .before .before .before .before .before .before .before .before .before .before .before .before .before .before .before .before .before .before .before .before .before .before .before .before .before .before .before))
+    judging-fails _ _ _ _ _ _ (c .before .before .before .before .before .before .before .before .before .before .before .before .before .before .before .before .before .before .before .before .before .before .before .before .before .before .before .before .before .before .before .before .before .before .before .before .before .call .inv) (here (c .before .before .before .before .before .before .before .before .before .before .before .before .before .before .before .before .before .before .before .before .before .before .before .before .before .before .before .before .before .before .before .before .before .before .before .before)) (span-there _ _ _ _ (here (c .before .before .before .before .before .before .before .before .before .before .before .before .before .before .before .before .before .before .before .before .before .before .before .before .before .before .before .before .before .before .before .before .before .before .before .before)))
     (sym (judged (c .before .before .before .before .before .before .before .before .before .before .before .before .before .before .before .before .before .before .before .before .before .before .before .before .before) _) ∙ ended-judged W g _ ∙ rw (above .high, above .which) refl) (above .kept)
     (ended-records W g (records-kept (c .before .before .before .before .before .before .before .before .before .before .before .before .before .before) ∙ W .records-long) (c .before .before .before .before .before .before .before .close-chunk .ensures .records-zeroed))
     (ended-work W g (work-kept (c .before .before .before .before .before .before .before .before .before .before .before .before .before .before) ∙ W .work-long))

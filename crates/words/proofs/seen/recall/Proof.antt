@@ -1,5 +1,4 @@
 -- `words::seen::recall` meets its contract: 0 in the first word says that nothing was seen.
-use mathlib.Core.Path.{_≡_}
 use borrow.Author.Tests.{eq-eqb, ne-eqb}
 use Rattle.words.specs.Seen.{told, seenAt}
 use borrow.Author.Needs.{needs}
