@@ -78,7 +78,7 @@ module _ (chains steps : List ℕ) (i caps : ℕ)
   unfolding ofChain chainAt
   other-root n = e ∙ rw (ne-eqb (getD chains (i * 7) 0) 2 n) refl
 
--- an instruction, and the word of its tag
+-- an instruction, and the rights in its tag's word
 pub record Asked (code names chains steps : List ℕ) (at word : ℕ) : Type 0 where
   pub wide : 0 < widthAt code at
   pub asks : Asks (tagAt code at) word
@@ -90,7 +90,7 @@ or-true true = refl
 or-true false = refl
 
 module _ {code names chains steps : List ℕ} {at word : ℕ} (A : Asked code names chains steps at word) where
-  -- the word says all
+  -- the rights say all
   pub word-rights : word / 16384 ≡ 0 → word ≡ required code names chains steps at
   unfolding asking
   word-rights z = sym (rw z) ∙ A .asks .needed code names chains steps at refl

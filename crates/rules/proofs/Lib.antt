@@ -23,11 +23,11 @@ pub mod Keeps
 pub mod Ties
 pub mod Demand
 pub mod Tests
+pub mod RightsWords
 pub mod ShapeWords
 pub mod Operands
 pub mod CountPlaces
 pub mod Amounts
-pub mod RightsWords
 pub mod Joined
 pub mod Simple
 pub mod Flows

@@ -17,7 +17,7 @@ named = 16384
 abbrev chained : ℕ
 chained = 32768
 
--- the definition of what is required, with a word in each case
+-- the definition of what is required, with the rights of a word in each case
 asked : ℕ → ℕ
 unfolding among
 asked tag =

@@ -1,7 +1,7 @@
--- What the code says of one instruction of a chunk, as the rule of its machine says it: the tests of its needs, the edges, and
--- the script that the parameters of a call make. Document 01, "Order of the tests": "rights (kind 4, p only what
--- lacks); 12; 15 for ITER_DROP, 16 for POP_HANDLER; then edges, each target tested for 9, then 10, and the fall-through pushed
--- last. ITER_NEXT* tests 15 before its target [...]. A plain instruction whose successor is not before the end gives 13."
+-- What the code says of one instruction of a chunk, as the rule of its machine says it: the tests of its needs, then the edges; and
+-- the tests of one jump. Document 01, "Order of the tests": "rights (kind 4, p only what lacks); 12; 15 for ITER_DROP, 16 for
+-- POP_HANDLER; then edges, each target tested for 9, then 10, and the fall-through pushed last. ITER_NEXT* tests 15 before its
+-- target [...]. A plain instruction whose successor is not before the end gives 13."
 use mathlib.Core.Bool.{_&&_, _||_, cond}
 use mathlib.Core.List.{List}
 use mathlib.Core.Option.{Option, none, some}
@@ -50,7 +50,7 @@ unfoldable pub unless : Option Answer → Ruling → Ruling
 unless none ruling = ruling
 unless (some answer) ruling = Denies answer
 
--- both in their order, of an instruction of a tag with this effect
+-- the tests, then the way on, of an instruction of a tag with this effect
 abbrev pub settled : (lacks tag : ℕ) → Effect → (at next end : ℕ) → Depths → Ruling
 settled lacks tag effect at next end d =
     unless (needsTest lacks tag (effect .needs) at d) (leaving tag (effect .pops) (effect .pushes) next end d)

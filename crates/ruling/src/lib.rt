@@ -1,5 +1,6 @@
 // One instruction of a chunk at given depths: what its rule says of it, and whether its jumps are good.
-// Every answer is the one that the rule and the judge of document 01's machine give, for whatever passed the checks before.
+// Every answer is the one that the rule and the judge of document 01's machine give, for whatever passed the checks before; one
+// jump by itself is tested by the bits of any marks.
 // Left to the walk that calls it: which places are taken in which order, and the depths seen at them.
 ghost use mathlib.Core.Bool.{_||_};
 ghost use mathlib.Core.List.{List, map};

@@ -1,6 +1,6 @@
 -- The customer's third demand, of the whole call: it accepts exactly when everything before the chunks passes and each chunk opens and
--- can be written; its heights are measured as far as it comes; a chunk that it comes to it refuses exactly when that one cannot be written, for what is real on its paths; and its
--- contract allows one outcome.
+-- can be written; its heights are measured as far as it comes; a chunk that it comes to it refuses exactly when that one cannot be
+-- written, for what is real on its paths; and its contract allows one outcome.
 use mathlib.Core.List.{List}
 use mathlib.Core.Logic.{_↔_}
 use mathlib.Core.Option.{none, some}
@@ -76,6 +76,17 @@ module _ (I : Input) (spans : List Span) (before : Memory) where
             accepting = λ z. absurd (omega (arith, z, ap (λ (x : Verdict). x .kind) v, kind .0));
             refusing = λ n. rw (← number) (fills-before I spans before b same i l p e);
           }
+
+  -- A call that does not come to its chunks leaves them as they were.
+  pub heights-kept : ¬ ComesToChunks I before → {r : Verdict} {after : Memory} → Calls I spans before r after → after .heights ≡ before .heights
+  unfolding outcome onward
+  heights-kept n c = rw (c .memory) (go (beforeStores I (length (before .marks)) (length (before .heights))) refl (afterStores I) refl)
+    where
+      go : (x : Test) → beforeStores I (length (before .marks)) (length (before .heights)) ≡ x → (y : Test) → afterStores I ≡ y
+          → result I spans before .memory .heights ≡ before .heights
+      go none p none q = absurd (n (record { early = p; late = q }))
+      go none p (some a) q = rw (p, q) refl
+      go (some a) p y q = rw p refl
 
   -- Of a chunk that opens, where those before it are good: it is refused exactly when it cannot be written.
   pub refused-exactly : ComesToChunks I before → (i : ℕ) → i < length spans → ((j : ℕ) → j < i → Good I spans before j) → OpensAt I spans before i

@@ -1,7 +1,8 @@
--- What an accepted call answers for, in terms of its chunks' paths. The customer's third demand, of each chunk: "depths can be
--- written beside some of its instruction starts so that [...]", and "The height answered is then the largest such depth on any path
--- from the entry, and some path attains it". Document 01, "What comes back": "On acceptance: the instructions in the code, [...];
--- reached and taken, summed over the chunks", and "heights hold a measured height for each chunk [...] (all, if accepted)".
+-- What a call answers for in terms of its chunks' paths: its heights as far as it comes, and, accepted, every chunk. The customer's
+-- third demand, of each chunk: "depths can be written beside some of its instruction starts so that [...]", and "The height answered
+-- is then the largest such depth on any path from the entry, and some path attains it". Document 01, "What comes back": "On
+-- acceptance: the instructions in the code, [...]; reached and taken, summed over the chunks", and "heights hold a measured height
+-- for each chunk before the one refused (all, if accepted), the others untouched".
 -- Nothing here knows how a chunk is judged.
 use mathlib.Core.List.{List}
 use mathlib.Core.Path.{_≡_}

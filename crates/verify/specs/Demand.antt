@@ -1,6 +1,6 @@
--- When a call accepts, what it leaves in heights, and when it refuses a chunk for its walk. Document 01, "Order of the tests": all that comes before the
--- chunks, then of each chunk "7; 8 if the entry is neither a start nor the code's length; room for records, work; walk; 14". What
--- the walk and 14 have to come to is the customer's third demand: Writing.
+-- When a call accepts, what it leaves in heights, and when it refuses a chunk for its walk. Document 01, "Order of the tests": all
+-- that comes before the chunks, then of each chunk "7; 8 if the entry is neither a start nor the code's length; room for records,
+-- work; walk; 14". What the walk and 14 have to come to is the customer's third demand: Writing.
 use mathlib.Core.List.{List}
 use mathlib.Core.Logic.{_⊎_}
 use mathlib.Core.Option.{none}

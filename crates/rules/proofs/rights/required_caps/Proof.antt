@@ -1,4 +1,4 @@
--- `rules::rights::required_caps` meets its contract: the word of the tag says all, or a name decides, or a chain does.
+-- `rules::rights::required_caps` meets its contract: the rights in the tag's word say all, or a name decides, or a chain does.
 use mathlib.Core.Path.{ap, _∙_, sym, subst}
 use Prim.Native.Nat.{ℕ}
 use native.Mathlib.Omega.{arith}
