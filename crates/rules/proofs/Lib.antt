@@ -25,6 +25,7 @@ pub mod Demand
 pub mod Tests
 pub mod RightsWords
 pub mod ShapeWords
+pub mod OneWord
 pub mod Operands
 pub mod CountPlaces
 pub mod Amounts

@@ -8,7 +8,7 @@ use lib.Dec.{T, eqb, leb, ltb, eqb→eq, ltb→lt}
 use lib.ListN.{getD, replicate}
 use Rattle.code.proofs.Table.{each}
 use Rattle.code.specs.Layout.{layout, among}
-use Rattle.code.specs.Tags.{RETURN, THROW, ITER-INIT, ITER-DROP, POP-HANDLER, SWITCH, IMPORT}
+use Rattle.code.specs.Tags.{ITER-INIT, ITER-DROP, POP-HANDLER, SWITCH, IMPORT}
 use Rattle.code.specs.Tags.{iterNexts, pushHandlers}
 use Rattle.code.specs.Width.{widthOf}
 use Rattle.rules.specs.Edges.{jumping, falls, plain}
@@ -38,9 +38,9 @@ tests tag word =
     ∷ same (among tag iterNexts) (eqb (word / 1048576 % 16) 4)
     ∷ same (among tag pushHandlers) (eqb (word / 1048576 % 16) 5)
     ∷ same (eqb tag POP-HANDLER) (eqb (word / 1048576 % 16) 2)
-    ∷ same (among tag (RETURN ∷ THROW ∷ [])) (eqb (word / 1048576 % 16) 9)
     ∷ eqb (iteratorsNeeded tag) (cond (eqb (word / 1048576 % 16) 3) 1 (cond (eqb (word / 1048576 % 16) 4) 1 0))
     ∷ eqb (handlersNeeded tag) (cond (eqb (word / 1048576 % 16) 2) 1 0)
+    ∷ ltb (word / 1048576 % 16) 10
     ∷ rightly tag (word / 16777216 % 65536)
     ∷ ltb word (2 ^ 40)
     ∷ []
@@ -70,9 +70,9 @@ told tag word t = record {
     advances = same→eq _ _ (passes 13);
     arms = same→eq _ _ (passes 14);
     disarms = same→eq _ _ (passes 15);
-    ends = same→eq _ _ (passes 16);
-    iterators = eqb→eq _ _ (passes 17);
-    handlers = eqb→eq _ _ (passes 18);
+    iterators = eqb→eq _ _ (passes 16);
+    handlers = eqb→eq _ _ (passes 17);
+    low = ltb→lt _ _ (passes 18);
   };
   rights = rights-told tag (word / 16777216 % 65536) (passes 19);
   no-more = ltb→lt _ _ (passes 20);

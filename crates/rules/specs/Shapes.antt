@@ -7,7 +7,7 @@ use mathlib.Core.Path.{_≡_}
 use Prim.Native.Nat.{ℕ, _+_, _/_, _%_, _^_, _<_}
 use lib.Dec.{eqb, leb, ltb}
 use Rattle.code.specs.Layout.{Field, target, count8, count16, slot, index, layout, among}
-use Rattle.code.specs.Tags.{RETURN, THROW, ITER-INIT, ITER-DROP, POP-HANDLER, SWITCH}
+use Rattle.code.specs.Tags.{ITER-INIT, ITER-DROP, POP-HANDLER, SWITCH}
 use Rattle.code.specs.Tags.{iterNexts, pushHandlers}
 use Rattle.code.specs.Width.{widthOf}
 use Rattle.rules.specs.Asks.{Asks}
@@ -37,9 +37,9 @@ pub record Flow (tag flow : ℕ) : Type 0 where
   pub advances : among tag iterNexts ≡ eqb flow 4
   pub arms : among tag pushHandlers ≡ eqb flow 5
   pub disarms : eqb tag POP-HANDLER ≡ eqb flow 2
-  pub ends : among tag (RETURN ∷ THROW ∷ []) ≡ eqb flow 9
   pub iterators : iteratorsNeeded tag ≡ cond (eqb flow 3) 1 (cond (eqb flow 4) 1 0)
   pub handlers : handlersNeeded tag ≡ cond (eqb flow 2) 1 0
+  pub low : flow < 10
 
 pub record Shape (tag word : ℕ) : Type 0 where
   pub needs-fixed : word % 4 ≡ effect tag .needs .fixed
