@@ -3,7 +3,7 @@ use mathlib.Core.Bool.{Bool, true, false, _&&_, cond}
 use mathlib.Core.List.{List, [], _∷_}
 use mathlib.Core.Path.{_≡_, refl, sym, _∙_}
 use Prim.Native.Nat.{ℕ, _*_, _/_, _%_, _^_, _<_}
-use native.Mathlib.Nat.{div-div-eq-div-mul}
+use native.Mathlib.Nat.{div-add-mod', div-div-eq-div-mul}
 use native.Mathlib.Omega.{arith}
 use borrow.Author.Tests.{eqb-true, eqb-false, leb-false}
 use lib.Bits.{or-zero-r}
@@ -97,20 +97,14 @@ module _ (tag : ℕ) where
 
 -- ---- the word
 
--- two numbers with the same lowest digit, and the same above it
-join-4 : (a b : ℕ) → a % 4 ≡ b % 4 → a / 4 ≡ b / 4 → a ≡ b
-join-4 a b e f = omega arith
-
-join-16 : (a b : ℕ) → a % 16 ≡ b % 16 → a / 16 ≡ b / 16 → a ≡ b
-join-16 a b e f = omega arith
+-- two numbers with the same lowest digit, of any base, and the same above it
+join : (base a b : ℕ) → a % base ≡ b % base → a / base ≡ b / base → a ≡ b
+join base a b e f = sym (div-add-mod' a base) ∙ rw (e, f) (div-add-mod' b base)
 
 -- and from a place on
 module _ (a b : ℕ) where
-  from-4 : (place : ℕ) → a / place % 4 ≡ b / place % 4 → a / (place * 4) ≡ b / (place * 4) → a / place ≡ b / place
-  from-4 place e f = join-4 (a / place) (b / place) e (div-div-eq-div-mul a place 4 ∙ f ∙ sym (div-div-eq-div-mul b place 4))
-
-  from-16 : (place : ℕ) → a / place % 16 ≡ b / place % 16 → a / (place * 16) ≡ b / (place * 16) → a / place ≡ b / place
-  from-16 place e f = join-16 (a / place) (b / place) e (div-div-eq-div-mul a place 16 ∙ f ∙ sym (div-div-eq-div-mul b place 16))
+  from : (base place : ℕ) → a / place % base ≡ b / place % base → a / (place * base) ≡ b / (place * base) → a / place ≡ b / place
+  from base place e f = join base (a / place) (b / place) e (div-div-eq-div-mul a place base ∙ f ∙ sym (div-div-eq-div-mul b place base))
 
   highest : a / 16777216 % 65536 ≡ b / 16777216 % 65536 → a < 2 ^ 40 → b < 2 ^ 40 → a / 16777216 ≡ b / 16777216
   highest e f g = omega arith
@@ -118,9 +112,9 @@ module _ (a b : ℕ) where
 pub one-word : {tag word other : ℕ} → Shape tag word → Shape tag other → word ≡ other
 one-word {tag} {word} {other} a b =
     let rights = highest word other (rights-once tag (a .rights) (b .rights)) (a .no-more) (b .no-more) in
-    let flow = from-16 word other 1048576 (sym (flow-told (a .flow)) ∙ flow-told (b .flow)) rights in
-    let place = from-16 word other 65536 (a .place ∙ sym (b .place)) flow in
-    let width = from-16 word other 4096 (a .width ∙ sym (b .width)) place in
-    let pushes = from-16 word other 256 (a .pushes ∙ sym (b .pushes)) width in
-    let pops = from-4 word other 16 (a .pops-fixed ∙ sym (b .pops-fixed)) (from-4 word other 64 (a .pops-perN ∙ sym (b .pops-perN)) pushes) in
-    join-4 word other (a .needs-fixed ∙ sym (b .needs-fixed)) (from-4 word other 4 (a .needs-perN ∙ sym (b .needs-perN)) pops)
+    let flow = from word other 16 1048576 (sym (flow-told (a .flow)) ∙ flow-told (b .flow)) rights in
+    let place = from word other 16 65536 (a .place ∙ sym (b .place)) flow in
+    let width = from word other 16 4096 (a .width ∙ sym (b .width)) place in
+    let pushes = from word other 16 256 (a .pushes ∙ sym (b .pushes)) width in
+    let pops = from word other 4 16 (a .pops-fixed ∙ sym (b .pops-fixed)) (from word other 4 64 (a .pops-perN ∙ sym (b .pops-perN)) pushes) in
+    join 4 word other (a .needs-fixed ∙ sym (b .needs-fixed)) (from word other 4 4 (a .needs-perN ∙ sym (b .needs-perN)) pops)

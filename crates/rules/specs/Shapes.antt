@@ -1,7 +1,7 @@
 -- What the word that the crate keeps for a tag says of it, digit by digit. The digits of base 16, the lowest first: what an
 -- instruction needs and what it pops, each so many and 4 more for each of its count n; what it pushes; its width; where n
 -- stands; its flow; and in four more its rights.
-use mathlib.Core.Bool.{_&&_, cond}
+use mathlib.Core.Bool.{Bool, _&&_, cond}
 use mathlib.Core.List.{List, [], _∷_}
 use mathlib.Core.Path.{_≡_}
 use Prim.Native.Nat.{ℕ, _+_, _/_, _%_, _^_, _<_}
@@ -40,6 +40,10 @@ pub record Flow (tag flow : ℕ) : Type 0 where
   pub iterators : iteratorsNeeded tag ≡ cond (eqb flow 3) 1 (cond (eqb flow 4) 1 0)
   pub handlers : handlersNeeded tag ≡ cond (eqb flow 2) 1 0
   pub low : flow < 10
+
+-- a word with nothing above the width: no count, the flow 0 and no rights
+unfoldable pub simple : ℕ → Bool
+simple word = ltb word 65536
 
 pub record Shape (tag word : ℕ) : Type 0 where
   pub needs-fixed : word % 4 ≡ effect tag .needs .fixed

@@ -1,11 +1,12 @@
 // What an instruction does to the operands: document 01's table of needs, pops and pushes.
+ghost use mathlib.Core.Bool.{true};
 ghost use mathlib.Core.List.{List};
 ghost use mathlib.Core.Path.{_≡_};
 ghost use Prim.Native.Nat.{ℕ, _+_, _*_, _/_, _%_, _<_};
 ghost use Rattle.code.specs.Layout.{tagAt, countAt};
 ghost use Rattle.code.specs.Width.{widthAt};
 ghost use Rattle.rules.specs.Acts.{Acts};
-ghost use Rattle.rules.specs.Shapes.{Shape};
+ghost use Rattle.rules.specs.Shapes.{simple, Shape};
 ghost use Rattle.rules.specs.There.{ChainEntry};
 use crate::Effect;
 use code::tag;
@@ -41,7 +42,7 @@ fn counted(word: u64, n: u16) -> Effect
 
 // The effect of an instruction with a simple word.
 pub fn fixed_effect(word: u64) -> Effect
-    ensures { λ r. ⌜ ((code chains : List ℕ) (at : ℕ) → Shape (tagAt code at) word → word < 65536 → 0 < widthAt code at → Acts code chains at r) ⌝ }
+    ensures { λ r. ⌜ ((code chains : List ℕ) (at : ℕ) → Shape (tagAt code at) word → simple word ≡ true → 0 < widthAt code at → Acts code chains at r) ⌝ }
 {
     counted(word, 0)
 }

@@ -5,11 +5,10 @@
 // stand in its own table, and not here.
 ghost use mathlib.Core.Path.{_≡_};
 ghost use Prim.Native.Nat.{ℕ, _<_};
-ghost use lib.Dec.{ltb};
 ghost use Rattle.code.specs.Layout.{tagAt};
 ghost use Rattle.code.specs.Width.{widthOf, widthAt};
 ghost use Rattle.rules.specs.Asks.{Asks};
-ghost use Rattle.rules.specs.Shapes.{Shape, Flow};
+ghost use Rattle.rules.specs.Shapes.{simple, Shape, Flow};
 use code::tag;
 
 // How control goes on, and what becomes of iterators and handlers. The groups that the rules speak of are runs of these
@@ -124,7 +123,7 @@ pub fn word_at(code: &[u8], at: usize) -> u64
 // Is there nothing in a word but what the instruction needs, pops and pushes, and its width? It has no count then and asks for
 // no rights, and control goes on to the next instruction with the iterators and handlers as they were.
 pub fn is_simple(word: u64) -> bool
-    ensures { λ r. ⌜ r ≡ ltb word 65536 ⌝ }
+    ensures { λ r. ⌜ r ≡ simple word ⌝ }
 {
     word < 0x1_0000
 }

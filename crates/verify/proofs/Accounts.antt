@@ -23,12 +23,12 @@ use Rattle.rules.specs.Chunk as chunk
 use Rattle.rules.specs.declared.Answer.{Answer}
 use Rattle.rules.specs.declared.Answer.the-variants.{Accepted}
 use Rattle.rules.specs.declared.verdict.Verdict.{Verdict}
-use Rattle.rules.specs.Measures.{Measures}
 use Rattle.rules.specs.Script.{Script, Span}
 use Rattle.verify.specs.Accounts.{chunkAt, sumBelow, Filled, Accounted}
 use Rattle.verify.specs.Call.{Memory, verdictOn, startBits, concluded, onward, outcome, result}
 use Rattle.verify.specs.Demand.{ComesToChunks}
 use Rattle.verify.specs.Judging.{Judged, judgeAll}
+use Rattle.verify.specs.declared.spans.Judgement.{Judgement}
 use Rattle.verify.specs.declared.spans.Judgement.the-variants.{Passed, Refused}
 use Rattle.verify.proofs.Chain.{chunk-next, judge-none, judge-passes, judge-fails}
 use Rattle.verify.proofs.Chunks.{passes-written, passes-measures, fails-refuses}
@@ -130,38 +130,28 @@ module _ (S : Script) (records work : ℕ) (spans : List Span) where
                     let same : n ≡ i = omega (arith, ltb-false i n q) in
                     subst (λ (k : ℕ). getD (set (s .heights) n (heightAt n)) k 0 ≡ heightAt k) same (getD-set-same (s .heights) n _ 0 (omega (arith, s .long)))
 
-    pub record AllJudged : Type 0 where
+    -- the chunks below a number pass, and this is the answer
+    pub record JudgedTo (n : ℕ) (answer : Judgement) : Type 0 where
       pub heights : List ℕ
-      pub so : judgeAll S records work spans 0 0 0 before
-          ≡ record { answer = Passed (sumBelow reachedAt (length spans)) (sumBelow takenAt (length spans)); heights = heights }
-      pub long : length heights ≡ length before
-      pub held : (i : ℕ) → i < length spans → i < length before → getD heights i 0 ≡ heightAt i
-      pub kept : (i : ℕ) → length spans ≤ i → getD heights i 0 ≡ getD before i 0
-
-    pub judged-passes : ((i : ℕ) → i < length spans → PassesAt i) → AllJudged
-    judged-passes p =
-        let s = sofar (length spans) (omega arith) p in
-        record {
-          heights = s .heights;
-          so = sym (s .rest) ∙ rw (drop-of-length-le spans {i = length spans} (omega arith)) (judge-none S records work _ _ _ _);
-          long = s .long;
-          held = s .held;
-          kept = s .kept;
-        }
-
-    pub record OneRefused (n : ℕ) (a : Answer) : Type 0 where
-      pub heights : List ℕ
-      pub so : judgeAll S records work spans 0 0 0 before ≡ record { answer = Refused n a; heights = heights }
+      pub so : judgeAll S records work spans 0 0 0 before ≡ record { answer = answer; heights = heights }
       pub long : length heights ≡ length before
       pub held : (i : ℕ) → i < n → i < length before → getD heights i 0 ≡ heightAt i
       pub kept : (i : ℕ) → n ≤ i → getD heights i 0 ≡ getD before i 0
 
-    pub judged-fails : (i : ℕ) {a : Answer} → i < length spans → ((j : ℕ) → j < i → PassesAt j) → judgedAt i ≡ fails a → OneRefused i a
+    to : {n : ℕ} {answer : Judgement} (s : Sofar n)
+        → judgeAll S records work (drop n spans) n (sumBelow reachedAt n) (sumBelow takenAt n) (s .heights) ≡ record { answer = answer; heights = s .heights }
+        → JudgedTo n answer
+    to s ends = record { heights = s .heights; so = sym (s .rest) ∙ ends; long = s .long; held = s .held; kept = s .kept }
+
+    pub judged-passes : ((i : ℕ) → i < length spans → PassesAt i)
+        → JudgedTo (length spans) (Passed (sumBelow reachedAt (length spans)) (sumBelow takenAt (length spans)))
+    judged-passes p =
+        to (sofar (length spans) (omega arith) p) (rw (drop-of-length-le spans {i = length spans} (omega arith)) (judge-none S records work _ _ _ _))
+
+    pub judged-fails : (i : ℕ) {a : Answer} → i < length spans → ((j : ℕ) → j < i → PassesAt j) → judgedAt i ≡ fails a → JudgedTo i (Refused i a)
     judged-fails i {a} l p e =
         let s = sofar i (omega arith) p in
-        let ends : judgeAll S records work (drop i spans) i (sumBelow reachedAt i) (sumBelow takenAt i) (s .heights) ≡ record { answer = Refused i a; heights = s .heights } =
-        rw (chunk-next spans i l) (judge-fails S records work (chunkAt spans i) (drop (suc i) spans) i (sumBelow reachedAt i) (sumBelow takenAt i) (s .heights) e) in
-        record { heights = s .heights; so = sym (s .rest) ∙ ends; long = s .long; held = s .held; kept = s .kept }
+        to s (rw (chunk-next spans i l) (judge-fails S records work (chunkAt spans i) (drop (suc i) spans) i (sumBelow reachedAt i) (sumBelow takenAt i) (s .heights) e))
 
 -- ---- a call that comes to its chunks
 
@@ -194,6 +184,25 @@ module _ (I : Input) (spans : List Span) (before : Memory) where
     unfolding outcome onward
     judges = rw (b .early, b .late) refl
 
+    -- as far as chunks pass, their heights are measured
+    keeps-heights : {n : ℕ} {answer : Judgement} (j : JudgedTo (I .script) records work spans (before .heights) n answer)
+        → result I spans before .memory .heights ≡ j .heights
+    unfolding concluded
+    keeps-heights j = rw (judges, j .so) refl
+
+    fills : I .chunks ≡ length spans → {n : ℕ} {answer : Judgement} (j : JudgedTo (I .script) records work spans (before .heights) n answer)
+        → n ≤ length spans → ((i : ℕ) → i < n → PassesIn i) → Filled (I .script) spans n (before .heights) (result I spans before .memory .heights)
+    fills same j few p =
+        rw (keeps-heights j)
+        (record {
+          reached-in = reachedAt (I .script) records work spans;
+          taken-in = takenAt (I .script) records work spans;
+          measured = λ i l.
+              rw (j .held i l (omega (arith, room I _ _ begun .heights-lent, same, few))) (passes-measures I known (chunkAt spans i) records work (p i l));
+          untouched = j .kept;
+          as-many = j .long;
+        })
+
     -- where a chunk fails after others that pass, it is refused
     pub refuses : (i : ℕ) {a : Answer} → i < length spans → ((j : ℕ) → j < i → PassesIn j) → judgedAt (I .script) records work spans i ≡ fails a
         → result I spans before .verdict ≡ numbered i a
@@ -203,22 +212,12 @@ module _ (I : Input) (spans : List Span) (before : Memory) where
     -- and the heights of those before it are measured
     pub fills-before : I .chunks ≡ length spans → (i : ℕ) {a : Answer} → i < length spans → ((j : ℕ) → j < i → PassesIn j)
         → judgedAt (I .script) records work spans i ≡ fails a → Filled (I .script) spans i (before .heights) (result I spans before .memory .heights)
-    unfolding concluded
-    fills-before same i l p e =
-        let one = judged-fails (I .script) records work spans (before .heights) i l p e in
-        rw (judges, one .so)
-        (record {
-          reached-in = reachedAt (I .script) records work spans;
-          taken-in = takenAt (I .script) records work spans;
-          measured = λ j k.
-              rw (one .held j k (omega (arith, room I _ _ begun .heights-lent, same))) (passes-measures I known (chunkAt spans j) records work (p j k));
-          untouched = one .kept;
-          as-many = one .long;
-        })
+    fills-before same i l p e = fills same (judged-fails (I .script) records work spans (before .heights) i l p e) (omega arith) p
 
     -- where all pass, it is accepted
     module _ (p : (i : ℕ) → i < length spans → PassesIn i) where
-      all : AllJudged (I .script) records work spans (before .heights)
+      all : JudgedTo (I .script) records work spans (before .heights) (length spans)
+          (Passed (sumBelow (reachedAt (I .script) records work spans) (length spans)) (sumBelow (takenAt (I .script) records work spans) (length spans)))
       all = judged-passes (I .script) records work spans (before .heights) p
 
       accepts : result I spans before .verdict
@@ -230,24 +229,8 @@ module _ (I : Input) (spans : List Span) (before : Memory) where
       unfolding numbered
       accepts-kind = ap (λ (v : Verdict). v .kind) accepts
 
-      keeps-heights : result I spans before .memory .heights ≡ all .heights
-      unfolding concluded
-      keeps-heights = rw (judges, all .so) refl
-
-      measures-all : I .chunks ≡ length spans → (i : ℕ) → i < length spans
-          → Measures (I .script) (chunkAt spans i) (getD (result I spans before .memory .heights) i 0) (reachedAt (I .script) records work spans i) (takenAt (I .script) records work spans i)
-      measures-all same i l =
-          rw (keeps-heights, all .held i l (omega (arith, room I _ _ begun .heights-lent, same)))
-          (passes-measures I known (chunkAt spans i) records work (p i l))
-
       pub fills-all : I .chunks ≡ length spans → Filled (I .script) spans (length spans) (before .heights) (result I spans before .memory .heights)
-      fills-all same = record {
-        reached-in = reachedAt (I .script) records work spans;
-        taken-in = takenAt (I .script) records work spans;
-        measured = measures-all same;
-        untouched = λ i l. rw keeps-heights (all .kept i l);
-        as-many = rw keeps-heights (all .long);
-      }
+      fills-all same = fills same all (omega arith) p
 
       accounts : I .chunks ≡ length spans → Accounted (I .script) spans (result I spans before .memory .heights) (result I spans before .verdict)
       unfolding numbered
@@ -255,7 +238,9 @@ module _ (I : Input) (spans : List Span) (before : Memory) where
         written = λ i l. passes-written I known (chunkAt spans i) records work (p i l);
         reached-in = reachedAt (I .script) records work spans;
         taken-in = takenAt (I .script) records work spans;
-        measured = measures-all same;
+        measured = λ i l.
+            rw (keeps-heights all, all .held i l (omega (arith, room I _ _ begun .heights-lent, same)))
+            (passes-measures I known (chunkAt spans i) records work (p i l));
         instructions = ap (λ (v : Verdict). v .instructions) accepts ∙ counted;
         reached = ap (λ (v : Verdict). v .reached) accepts;
         taken = ap (λ (v : Verdict). v .taken) accepts;

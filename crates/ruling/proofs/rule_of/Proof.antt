@@ -1,12 +1,12 @@
 -- `ruling::rule_of` meets its contract: what is settled is the rule. A simple word says all that is settled from.
-use mathlib.Core.Path.{sym, _∙_}
-use Prim.Native.Nat.{_+_, _≤_, _<_}
+use mathlib.Core.Bool.{true}
+use mathlib.Core.Path.{_≡_, sym, _∙_}
+use Prim.Native.Nat.{_+_, _≤_}
 use native.Mathlib.Omega.{arith}
 use borrow.Author.Needs.{needs}
-use borrow.Author.Tests.{ltb-true}
 use lib.ListN.{length}
 use Rattle.code.specs.Layout.{tagAt}
-use Rattle.rules.specs.Shapes.{Flow}
+use Rattle.rules.specs.Shapes.{simple, Flow}
 use Rattle.rules.proofs.Amounts.{chain-entry-of}
 use Rattle.rules.proofs.Simple.{simple-flow, simple-lacks}
 use Rattle.ruling.proofs.Tests.{next-within, settles, rule-settled}
@@ -40,17 +40,17 @@ module _ (c : tie.After-fixed-effect) where
   abbrev begun : tie.Start
   begun = start (c .before .before .before)
 
-  small : begun .args .word < 65536
-  small = ltb-true _ _ (sym (c .before .before .is-simple .ensures) ∙ c .before .if1 .taken)
+  is : simple (begun .args .word) ≡ true
+  is = sym (c .before .before .is-simple .ensures) ∙ c .before .if1 .taken
 
   flows : Flow (tagAt (begun .args .code .now) (begun .args .at)) 0
-  flows = simple-flow (begun .pre .0) small
+  flows = simple-flow (begun .pre .0) is
 
 settle-requires : tie.Need-settle-requires
 settle-requires c κs =
     let pre = begun c .pre in
     let fits = pre .1 .1 .1 .1 .1 in
-    settles {chains = begun c .args .chains .now} (pre .1 .0) (flows c) (c .fixed-effect .ensures _ _ _ (pre .0) (small c) (pre .1 .0)) (fits .0) (fits .1 .0) (fits .1 .1)
+    settles {chains = begun c .args .chains .now} (pre .1 .0) (flows c) (c .fixed-effect .ensures _ _ _ (pre .0) (is c) (pre .1 .0)) (fits .0) (fits .1 .0) (fits .1 .1)
 
 returns : tie.Need-returns
 returns c =
@@ -58,7 +58,7 @@ returns c =
     let wide = effect .before .before .before in
     let pre = begun effect .pre in
     λ switches cases ranges entry declared.
-    rule-settled _ _ _ _ (simple-lacks _ _ _ (pre .0) (small effect) _ _ _) (effect .fixed-effect .ensures _ _ _ (pre .0) (small effect) (pre .1 .0)) (pre .1 .0)
+    rule-settled _ _ _ _ (simple-lacks _ _ _ (pre .0) (is effect) _ _ _) (effect .fixed-effect .ensures _ _ _ (pre .0) (is effect) (pre .1 .0)) (pre .1 .0)
     (wide .width-in .ensures _ (pre .0)) (c .settle .ensures _ (flows effect))
 
 required-caps-requires : tie.Need-required-caps-requires

@@ -8,7 +8,7 @@ counted-requires : tie.Need-counted-requires
 counted-requires c κs = search needs
 
 returns : tie.Need-returns
-returns c = λ code chains at shape small wide. rw (c .counted .ensures) (simple-acts code chains at shape small wide)
+returns c = λ code chains at shape is wide. rw (c .counted .ensures) (simple-acts code chains at shape is wide)
 
 pub fixed-effect-spec : {M : Type 1} → statement M
 fixed-effect-spec = tie.close (tie.spec counted-requires returns)
