@@ -1,15 +1,14 @@
 -- What an input is that passes everything before the chunks: what the walk of a chunk builds on, and what marks hold then.
-use mathlib.Core.Bool.{Bool, true, false, _||_, cond}
+use mathlib.Core.Bool.{Bool, true, false, cond}
 use mathlib.Core.List.{List, [], _∷_, List·Memᴰ}
 use mathlib.Core.Option.{none}
 use mathlib.Core.Path.{_≡_, refl, sym, ap, _∙_}
-use Prim.Native.Nat.{ℕ, zero, suc, _+_, _*_, _/_, _≤_, _<_}
+use Prim.Native.Nat.{ℕ, zero, suc, _+_, _/_, _≤_, _<_}
 use native.Mathlib.Nat.{le-of-suc-le-suc}
 use native.Mathlib.Omega.{arith}
 use borrow.Author.Tests.{eqb-true, leb-true, ne-eqb}
 use lib.Dec.{eqb, leb, ltb}
 use lib.ListN.{length, getD, replicate}
-use Rattle.code.specs.Layout.{among}
 use Rattle.code.specs.Width.{widthOf, widthAt}
 use Rattle.code.proofs.Widths.{width-there}
 use Rattle.indices.specs.Indices as reference
@@ -22,11 +21,8 @@ use Rattle.marks.specs.Marks.{Holds, Words, markedAll, total}
 use Rattle.marks.proofs.Laws.{holds-all, words-all, zeros-words}
 use Rattle.pools.specs.Good.{GoodTables}
 use Rattle.pools.specs.Sizes.{Within}
-use Rattle.rules.specs.Chunk.{BeforeWalk}
-use Rattle.rules.specs.Edges.{T, E}
 use Rattle.rules.specs.Rights.{lacking}
-use Rattle.rules.specs.Script.{Span}
-use Rattle.rules.specs.declared.Answer.the-variants.{MissingCaps, Undecodable, BadIndex}
+use Rattle.answer.specs.declared.Answer.the-variants.{MissingCaps, Undecodable, BadIndex}
 use Rattle.rules.specs.There.{NameThere, ChainThere, SwitchThere}
 use Rattle.before.specs.Before.{Test, rightsTest, constantsTest, functionTest, indicesTest, widthTest, codeTest, lateTests, beforeStores, afterStores, beforeChunks}
 use Rattle.before.specs.Input.{Input, sizesOf}
@@ -166,24 +162,6 @@ module _ (I : Input) (is : Established I) where
           let good = is .good .good-switches _ there in
           record { entry = there; cases-within = good .cases-within; ranges-within = good .ranges-within };
     }
-
-  -- with what a chunk's own tests establish, all that comes before its walk
-  pub before-walk : (span : Span) (records work : ℕ) → span .entry ≤ span .end → span .end ≤ length (I .script .code)
-      → among (span .entry) (starts (I .script .code)) || eqb (span .entry) (length (I .script .code)) ≡ true
-      → 4 * (1 + T (I .script) span) ≤ records → 4 * (1 + E (I .script) span) ≤ work → BeforeWalk (I .script) span records work
-  before-walk span records work in-order in-code aligned records-room work-room = record {
-    decoded = is .decoded;
-    chain-there = λ p s has. chain-there p s .chain has .entry;
-    switch-there = λ p s has. switch-there p s .switch has .entry;
-    steps-within = λ i h. is .good .good-chains i h .within;
-    cases-within = λ i h. is .good .good-switches i h .cases-within;
-    ranges-within = λ i h. is .good .good-switches i h .ranges-within;
-    in-order = in-order;
-    in-code = in-code;
-    aligned = aligned;
-    records-room = records-room;
-    work-room = work-room;
-  }
 
 -- ---- what marks hold
 

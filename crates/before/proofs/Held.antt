@@ -6,12 +6,12 @@ use Prim.Native.Nat.{ℕ}
 use lib.ListN.{length, replicate, length-replicate}
 use Rattle.listing.specs.Listing.{starts}
 use Rattle.marks.proofs.Laws.{length-all}
-use Rattle.rules.specs.declared.Answer.{Answer}
-use Rattle.rules.specs.Answer.{told}
+use Rattle.answer.specs.declared.Answer.{Answer}
+use Rattle.answer.specs.Answer.{told}
 use Rattle.before.specs.Before.{Test}
 use Rattle.before.specs.Memory.{Prepared, marksOf, marksFrom}
-use Rattle.rules.specs.declared.Outcome.{Outcome}
-use Rattle.rules.specs.declared.Outcome.the-variants.{Passed, Refused}
+use Rattle.answer.specs.declared.Outcome.{Outcome}
+use Rattle.answer.specs.declared.Outcome.the-variants.{Passed, Refused}
 
 -- a test's answer, and no mark of so many words
 pub refused-by : {test : Test} {answer : Answer} {r s : Outcome} {words : List ℕ} (code : List ℕ) (n : ℕ)

@@ -18,7 +18,7 @@ use Rattle.pools.specs.declared.limits.Sizes.{Sizes}
 use Rattle.pools.proofs.First.{Upward, none as never, first-at}
 use Rattle.pools.proofs.LimitLaws as limit
 use Rattle.pools.proofs.TableLaws.{passed-good}
-use Rattle.rules.specs.declared.Answer.the-variants.{TooLarge, BadTable, NoRoom}
+use Rattle.answer.specs.declared.Answer.the-variants.{TooLarge, BadTable, NoRoom}
 use Rattle.before.specs.Before.{limitsTest, tablesTest, roomTest, earlyTests}
 use Rattle.before.proofs.Tests.{both, not-refused}
 

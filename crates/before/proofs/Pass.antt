@@ -20,14 +20,14 @@ use Rattle.listing.proofs.WalkLaws.{walk-on, walk-stop}
 use Rattle.listing.proofs.Starts.{all-within, starts-on, starts-stop}
 use Rattle.marks.specs.Marks.{marked, markedAll}
 use Rattle.marks.proofs.Laws.{length-marked}
-use Rattle.rules.specs.declared.Answer.{Answer}
-use Rattle.rules.specs.declared.Answer.the-variants.{Undecodable, BadIndex}
-use Rattle.rules.specs.Answer.{told}
+use Rattle.answer.specs.declared.Answer.{Answer}
+use Rattle.answer.specs.declared.Answer.the-variants.{Undecodable, BadIndex}
+use Rattle.answer.specs.Answer.{told}
 use Rattle.before.specs.Before.{Test, first, indicesTest, widthTest, codeTest}
 use Rattle.before.specs.Memory.{Prepared, marksOf}
 use Rattle.before.specs.Pass.{unless, turnAt, marksTurned, Turned}
-use Rattle.rules.specs.declared.Outcome.{Outcome}
-use Rattle.rules.specs.declared.Outcome.the-variants as outcome
+use Rattle.answer.specs.declared.Outcome.{Outcome}
+use Rattle.answer.specs.declared.Outcome.the-variants as outcome
 use Rattle.before.specs.declared.Turn.{Turn}
 use Rattle.before.specs.declared.Turn.the-variants.{Next, Done, Refused}
 use Rattle.before.proofs.Tests.{last}

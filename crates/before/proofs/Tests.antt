@@ -11,12 +11,12 @@ use Rattle.pools.specs.Tables.{firstBad}
 use Rattle.pools.specs.Told.{fine, overLimit, badTable}
 use Rattle.pools.specs.declared.limits.Sizes.{Sizes}
 use Rattle.rules.specs.Rights.{lacking}
-use Rattle.rules.specs.declared.Answer.{Answer}
-use Rattle.rules.specs.declared.Answer.the-variants.{TooLarge, BadTable, NoRoom, MissingCaps}
-use Rattle.rules.specs.Answer.{told}
+use Rattle.answer.specs.declared.Answer.{Answer}
+use Rattle.answer.specs.declared.Answer.the-variants.{TooLarge, BadTable, NoRoom, MissingCaps}
+use Rattle.answer.specs.Answer.{told}
 use Rattle.before.specs.Before.{Test, first, limitsTest, tablesTest, roomTest, rightsTest, functionTest}
-use Rattle.rules.specs.declared.Outcome.{Outcome}
-use Rattle.rules.specs.declared.Outcome.the-variants.{Passed, Refused}
+use Rattle.answer.specs.declared.Outcome.{Outcome}
+use Rattle.answer.specs.declared.Outcome.the-variants.{Passed, Refused}
 
 -- ---- several in their order
 

@@ -14,11 +14,11 @@ use Rattle.listing.specs.Walk.{walk}
 use Rattle.pools.specs.Sizes.{firstExceeded}
 use Rattle.pools.specs.Tables.{firstBad}
 use Rattle.pools.specs.declared.limits.Sizes.{Sizes}
-use Rattle.rules.specs.Answer.{refusal, noChunk, numbered}
-use Rattle.rules.specs.declared.verdict.Verdict.{Verdict}
+use Rattle.answer.specs.Answer.{refusal, noChunk, numbered}
+use Rattle.answer.specs.declared.verdict.Verdict.{Verdict}
 use Rattle.rules.specs.Rights.{lacking}
-use Rattle.rules.specs.declared.Answer.{Answer}
-use Rattle.rules.specs.declared.Answer.the-variants.{TooLarge, BadTable, NoRoom, MissingCaps, Undecodable, BadIndex}
+use Rattle.answer.specs.declared.Answer.{Answer}
+use Rattle.answer.specs.declared.Answer.the-variants.{TooLarge, BadTable, NoRoom, MissingCaps, Undecodable, BadIndex}
 use Rattle.before.specs.Input.{Input, sizesOf, poolSizes}
 
 -- a test passes, or refuses with an answer

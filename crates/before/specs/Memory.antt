@@ -7,10 +7,10 @@ use lib.ListN.{length, replicate}
 use Prim.Native.Nat.{ℕ}
 use Rattle.listing.specs.Listing.{starts}
 use Rattle.marks.specs.Marks.{markedAll}
-use Rattle.rules.specs.Answer.{told}
+use Rattle.answer.specs.Answer.{told}
 use Rattle.before.specs.Before.{Test, beforeStores, afterStores, beforeChunks}
 use Rattle.before.specs.Input.{Input}
-use Rattle.rules.specs.declared.Outcome.{Outcome}
+use Rattle.answer.specs.declared.Outcome.{Outcome}
 
 -- so many words, once stores have begun
 unfoldable pub marksOf : List ℕ → Test → (words : ℕ) → List ℕ

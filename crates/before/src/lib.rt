@@ -7,7 +7,7 @@ ghost use mathlib.Core.Path.{_≡_};
 ghost use Prim.Native.Nat.{_<_, _/_};
 ghost use lib.ListN.{length, replicate};
 ghost use Rattle.indices.specs.Indices.{Sound, tables};
-ghost use Rattle.rules.specs.Answer.{told};
+ghost use Rattle.answer.specs.Answer.{told};
 ghost use Rattle.before.specs.Before.{limitsTest, tablesTest, roomTest, rightsTest, constantsTest, functionTest, codeTest, earlyTests, lateTests};
 ghost use Rattle.before.specs.Input.{input, poolSizes};
 ghost use Rattle.before.specs.Memory.{Prepared, ForChunks, marksOf};
@@ -21,8 +21,8 @@ use pools::SWITCH_WORDS;
 use pools::limits::Limits;
 use pools::limits::Sizes;
 use pools::tables::Tables;
-use rules::Answer;
-use rules::Outcome;
+use answer::Answer;
+use answer::Outcome;
 
 // What one instruction of the first pass comes to: it is passed, and this is the offset after it; the code has ended; or a
 // refusal.

@@ -17,19 +17,20 @@ use Rattle.pools.specs.Pools.{entries}
 use Rattle.pools.specs.Sizes.{maxCode, limits, firstExceeded}
 use Rattle.pools.specs.Tables as tables
 use Rattle.pools.specs.Told as told
-use Rattle.rules.specs.Answer.{numbered}
-use Rattle.rules.specs.Chunk.{measured, walked, judgeChunk}
-use Rattle.rules.specs.Depths.{agree}
-use Rattle.rules.specs.Edges.{falls, plain, armsOf, targetsOf, afterOf, jumpedOf, next, degree, T, E}
+use Rattle.answer.specs.Answer.{numbered}
+use Rattle.demand.specs.Chunk.{measured, walked, judgeChunk}
+use Rattle.answer.specs.Depths.{agree}
+use Rattle.rules.specs.Edges.{falls, plain, armsOf, targetsOf, afterOf, jumpedOf, next, degree}
+use Rattle.demand.specs.Span.{T, E}
 use Rattle.rules.specs.Effects.{effect, operandsOf, needs, pops, pushes}
-use Rattle.rules.specs.Lists.{_∈_, here, there, sumOf}
-use Rattle.rules.specs.Machine.{fallTo}
-use Rattle.rules.specs.Paths.{iteratorsNeeded, handlersNeeded}
+use Rattle.machine.specs.Lists.{_∈_, here, there, sumOf}
+use Rattle.machine.specs.Machine.{fallTo}
+use Rattle.rules.specs.Needs.{iteratorsNeeded, handlersNeeded}
 use Rattle.rules.specs.Rights.{required, lacking, ofName, ofChain}
-use Rattle.rules.specs.Rule.{allTargets, rule, judge}
-use Rattle.rules.specs.Walk.{push, firstBad, seen, turn, run, lookup}
+use Rattle.demand.specs.Rule.{allTargets, rule, judge}
+use Rattle.machine.specs.Walk.{push, firstBad, seen, turn, run, lookup}
 use Rattle.verify.specs.Call.{verdictOn, marksOn, concluded, onward, outcome}
-use Rattle.verify.specs.Judging.{judgeAll}
+use Rattle.judging.specs.Judging.{judgeAll}
 
 computed : map answered bench ≡ map expected bench
 unfolding first limitsTest tablesTest roomTest rightsTest constantsTest functionTest widthTest indicesTest codeTest earlyTests lateTests marksOf word answered among layout countFrom indicesFrom little widthOf toldBy reference.firstBad reference.sizeOf reference.inCode reference.inRecord startsBy startsBefore walkFor marked markedAll total entries maxCode limits firstExceeded tables.ragged tables.wholeTable tables.firstBad told.first told.firstFrom numbered measured walked judgeChunk agree falls plain armsOf targetsOf afterOf jumpedOf next degree T E effect operandsOf needs pops pushes sumOf fallTo iteratorsNeeded handlersNeeded required lacking ofName ofChain allTargets rule judge push firstBad seen turn run lookup verdictOn marksOn concluded onward outcome judgeAll ones

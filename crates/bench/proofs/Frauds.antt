@@ -9,8 +9,8 @@ use Rattle.bench.proofs.Bench.{answers}
 use Rattle.bench.specs.Bench.{Row, answered, documented, bench, lent, p1, p6, two, spoiled, counted}
 use Rattle.bench.specs.Frauds.{Comes, Refuses, OneHeight, StoresNothing, in-marks, in-records, in-work, FirstOnly, in-kind, Invents, of-instructions, of-reached, of-taken}
 use Rattle.bench.specs.Frauds as fraud
-use Rattle.rules.specs.declared.verdict.Verdict.{Verdict}
-use Rattle.rules.specs.Lists.{_∈_, here, there}
+use Rattle.answer.specs.declared.verdict.Verdict.{Verdict}
+use Rattle.machine.specs.Lists.{_∈_, here, there}
 use Rattle.verify.specs.Call.{Memory}
 
 -- ---- what comes of a row of the table

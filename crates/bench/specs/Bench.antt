@@ -4,7 +4,7 @@ use mathlib.Core.List.{List, [], _∷_, _++_}
 use Prim.Native.Nat.{ℕ, _+_, _^_}
 use lib.ListN.{length, replicate}
 use Rattle.before.specs.Input.{Input}
-use Rattle.rules.specs.Script.{Span}
+use Rattle.demand.specs.Span.{Span}
 use Rattle.verify.specs.Call.{Memory, Result, result}
 
 -- ---- what is asked

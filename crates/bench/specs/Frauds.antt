@@ -6,7 +6,7 @@ use mathlib.Core.Path.{_≡_}
 use Prim.Native.Nat.{ℕ}
 use lib.ListN.{getD}
 use Rattle.bench.specs.Bench.{Row, input, lent}
-use Rattle.rules.specs.declared.verdict.Verdict.{Verdict}
+use Rattle.answer.specs.declared.verdict.Verdict.{Verdict}
 use Rattle.verify.specs.Call.{Memory, Calls}
 
 -- a call on what a row asks may come to this verdict and this memory

@@ -4,8 +4,8 @@
 ghost use mathlib.Core.Path.{_≡_};
 ghost use Rattle.bench.specs.Bench.{asked, lent};
 ghost use Rattle.verify.specs.Call.{result};
-ghost use Rattle.verify.specs.Judging.{spansOf};
-use rules::verdict::Verdict;
+ghost use Rattle.judging.specs.Spans.{spansOf};
+use answer::verdict::Verdict;
 
 // Asks about a script of constants and code alone, with the table's memory lent.
 fn ask(

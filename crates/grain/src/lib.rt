@@ -6,7 +6,7 @@ ghost use lib.ListN.{length};
 ghost use Rattle.before.specs.Input.{input};
 ghost use Rattle.verify.specs.Call.{Calls};
 ghost use Rattle.grain.specs.Chunks.{spansFrom};
-use rules::verdict::Verdict;
+use answer::verdict::Verdict;
 use verify::stages;
 
 // A chunk's span in the code, and the height that it declares.

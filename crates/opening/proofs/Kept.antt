@@ -18,13 +18,14 @@ use Rattle.listing.proofs.Before.{before-on, before-stop, cut}
 use Rattle.listing.proofs.Starts.{listed-start, start-wide, start-next}
 use Rattle.pools.specs.Pools.{switchAt}
 use Rattle.rules.specs.Edges.{jumping, armsOf, targetsOf, falls}
-use Rattle.rules.specs.Lists.{sumOf}
+use Rattle.machine.specs.Lists.{sumOf}
 use Rattle.rules.proofs.Arms.{arms-length}
-use Rattle.rules.proofs.Lists.{zero≢one}
+use Rattle.answer.proofs.Apart.{zero≢one}
 use Rattle.rules.proofs.Targets.{length-cond}
 use Rattle.opening.specs.declared.Listed.{Listed}
 use Rattle.opening.specs.Listing.{targetsAt, fallAt, OneListed, fronted, opening, EntryStored, keepAll, AllListed}
-use Rattle.opening.specs.Ready.{Listable, InCode}
+use Rattle.opening.specs.Ready.{Listable}
+use Rattle.demand.specs.Span.{InCode}
 use Rattle.opening.proofs.Fronts.{length-fronted, length-opening, behind, behind-length, behind-fits, behind-words}
 use Rattle.opening.proofs.Storing.{at-most-one}
 

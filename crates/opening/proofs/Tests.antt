@@ -11,16 +11,18 @@ use Rattle.code.specs.Layout.{among}
 use Rattle.listing.specs.Listing.{starts}
 use Rattle.listing.proofs.Marked.{told-by-marks}
 use Rattle.marks.specs.Marks.{bitAt, isOne}
-use Rattle.rules.specs.declared.Answer.{Answer}
-use Rattle.rules.specs.declared.Answer.the-variants.{NoRoom, ChunkOutOfRange, Misaligned}
-use Rattle.rules.specs.Chunk.{Judged, fails, walked, judgeChunk}
-use Rattle.rules.specs.Edges.{T, E}
-use Rattle.rules.specs.Script.{Script, Span}
-use Rattle.rules.proofs.Lists.{zero≢one}
-use Rattle.rules.specs.declared.Outcome.{Outcome}
-use Rattle.rules.specs.declared.Outcome.the-variants.{Passed, Refused}
-use Rattle.opening.specs.Ready.{InCode, Marked}
-use Rattle.rules.specs.Answer.{told}
+use Rattle.answer.specs.declared.Answer.{Answer}
+use Rattle.answer.specs.declared.Answer.the-variants.{NoRoom, ChunkOutOfRange, Misaligned}
+use Rattle.demand.specs.Chunk.{Judged, fails, walked, judgeChunk}
+use Rattle.demand.specs.Span.{T, E}
+use Rattle.rules.specs.Script.{Script}
+use Rattle.demand.specs.Span.{Span}
+use Rattle.answer.proofs.Apart.{zero≢one}
+use Rattle.answer.specs.declared.Outcome.{Outcome}
+use Rattle.answer.specs.declared.Outcome.the-variants.{Passed, Refused}
+use Rattle.demand.specs.Span.{InCode}
+use Rattle.opening.specs.Ready.{Marked}
+use Rattle.answer.specs.Answer.{told}
 use Rattle.opening.specs.Tests.{Test, spanTest, roomTest}
 
 -- what a test tells, by its outcome

@@ -8,13 +8,15 @@ use lib.ListN.{length, take, drop, replicate, replicate-append-replicate}
 use lib.Seq.{length-take-le, take-at, drop-at}
 use Rattle.order.specs.Order.{inOrder, Ordered}
 use Rattle.order.proofs.Laws.{no-longer}
-use Rattle.rules.specs.declared.Answer.{Answer}
-use Rattle.rules.specs.Edges.{T, E, degree, chunkStarts}
-use Rattle.rules.specs.Script.{Script, Span}
+use Rattle.answer.specs.declared.Answer.{Answer}
+use Rattle.demand.specs.Span.{T, E, chunkStarts}
+use Rattle.rules.specs.Edges.{degree}
+use Rattle.rules.specs.Script.{Script}
+use Rattle.demand.specs.Span.{Span}
 use Rattle.opening.specs.declared.Listed.{Listed}
 use Rattle.opening.specs.Listing.{fronted, opening, keepAll, AllListed}
 use Rattle.opening.specs.Opens.{KeysLaid, Refuses, Readies}
-use Rattle.opening.specs.Ready.{InCode}
+use Rattle.demand.specs.Span.{InCode}
 use Rattle.opening.specs.Records.{named, keys, laid}
 use Rattle.opening.specs.Tests.{spanTest, roomTest, openTest}
 use Rattle.opening.proofs.Fronts.{drop-zeros, length-fronted, cleared}

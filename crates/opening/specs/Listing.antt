@@ -11,7 +11,7 @@ use Rattle.code.specs.Layout.{tagAt}
 use Rattle.code.specs.Width.{widthOf}
 use Rattle.listing.specs.Listing.{startsBefore}
 use Rattle.rules.specs.Edges.{falls, targetsOf}
-use Rattle.rules.specs.Lists.{sumOf}
+use Rattle.machine.specs.Lists.{sumOf}
 use Rattle.opening.specs.declared.Listed.{Listed}
 
 -- do so many words more have room behind those that are kept?

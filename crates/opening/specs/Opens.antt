@@ -6,15 +6,16 @@ use mathlib.Core.Path.{_≡_}
 use Prim.Native.Nat.{ℕ, _+_, _*_, _≤_}
 use lib.ListN.{length, take, replicate}
 use Rattle.order.specs.Order.{inOrder}
-use Rattle.rules.specs.declared.Answer.{Answer}
-use Rattle.rules.specs.Chunk.{fails, judgeChunk}
-use Rattle.rules.specs.Edges.{T, E}
-use Rattle.rules.specs.Script.{Script, Span}
+use Rattle.answer.specs.declared.Answer.{Answer}
+use Rattle.demand.specs.Chunk.{fails, judgeChunk}
+use Rattle.demand.specs.Span.{T, E}
+use Rattle.rules.specs.Script.{Script}
+use Rattle.demand.specs.Span.{Span}
 use Rattle.opening.specs.declared.Opened.{Opened}
 use Rattle.opening.specs.declared.Opened.the-variants.{Ready, Refused}
 use Rattle.opening.specs.declared.Room.{Room}
 use Rattle.opening.specs.Listing.{fronted}
-use Rattle.opening.specs.Ready.{InCode}
+use Rattle.demand.specs.Span.{InCode}
 use Rattle.opening.specs.Records.{keys, laid}
 use Rattle.opening.specs.Tests.{openTest}
 

@@ -1,17 +1,15 @@
 -- What a script is that passed everything before the chunks, as far as a chunk looks at it. Document 01, "Order of the tests":
 -- what stands before "chunks upward" there, and "At most: code 65,536 bytes".
-use mathlib.Core.Bool.{true, _||_}
 use mathlib.Core.List.{List}
 use mathlib.Core.Path.{_≡_}
 use Prim.Native.Nat.{ℕ, _+_, _≤_, _<_}
-use lib.Dec.{eqb}
 use lib.ListN.{length}
-use Rattle.code.specs.Layout.{among}
 use Rattle.code.specs.Width.{widthOf}
 use Rattle.listing.specs.Listing.{Start, starts, stopBy}
 use Rattle.marks.specs.Marks.{Holds}
 use Rattle.pools.specs.Pools.{whole, chainAt, switchAt}
-use Rattle.rules.specs.Script.{Script, Span}
+use Rattle.rules.specs.Script.{Script}
+use Rattle.demand.specs.Span.{Span}
 use Rattle.rules.specs.There.{NameThere, ChainThere, SwitchThere}
 
 -- What listing a chunk builds on: every byte of the code belongs to an instruction, each switch that one names is there with
@@ -22,12 +20,6 @@ pub record Listable (code switches cases ranges : List ℕ) : Type 0 where
   pub small : length code ≤ 65536
   pub few-cases : whole 2 cases ≤ 65536
   pub few-ranges : length ranges ≤ 65536
-
--- a chunk's own tests, 7 and 8, passed
-pub record InCode (code : List ℕ) (entry end : ℕ) : Type 0 where
-  pub in-order : entry ≤ end
-  pub in-code : end ≤ length code
-  pub aligned : among entry (starts code) || eqb entry (length code) ≡ true
 
 -- the span of a chunk
 abbrev pub spanOf : (entry end declared : ℕ) → Span

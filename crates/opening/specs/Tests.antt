@@ -8,10 +8,11 @@ use lib.Dec.{ltb, eqb}
 use lib.ListN.{length}
 use Rattle.code.specs.Layout.{among}
 use Rattle.listing.specs.Listing.{starts}
-use Rattle.rules.specs.declared.Answer.{Answer}
-use Rattle.rules.specs.declared.Answer.the-variants.{NoRoom, ChunkOutOfRange, Misaligned}
-use Rattle.rules.specs.Edges.{T, E}
-use Rattle.rules.specs.Script.{Script, Span}
+use Rattle.answer.specs.declared.Answer.{Answer}
+use Rattle.answer.specs.declared.Answer.the-variants.{NoRoom, ChunkOutOfRange, Misaligned}
+use Rattle.demand.specs.Span.{T, E}
+use Rattle.rules.specs.Script.{Script}
+use Rattle.demand.specs.Span.{Span}
 
 -- a refusal, or none
 abbrev pub Test : Type 0

@@ -13,11 +13,12 @@ ghost use Rattle.rules.specs.There.{SwitchThere};
 ghost use Rattle.opening.specs.Listing.{targetsAt, fallAt, OneListed, EntryStored, AllListed};
 ghost use Rattle.opening.specs.Opens.{KeysLaid, Opens};
 ghost use Rattle.rules.specs.Script.{script};
-ghost use Rattle.opening.specs.Ready.{Listable, InCode, Marked, spanOf};
-ghost use Rattle.rules.specs.Answer.{told};
+ghost use Rattle.opening.specs.Ready.{Listable, Marked, spanOf};
+ghost use Rattle.demand.specs.Span.{InCode};
+ghost use Rattle.answer.specs.Answer.{told};
 ghost use Rattle.opening.specs.Tests.{spanTest, roomTest};
-use rules::Answer;
-use rules::Outcome;
+use answer::Answer;
+use answer::Outcome;
 
 // The buffers by the numbers that kind 3 gives them.
 const RECORDS: u64 = 3;

@@ -10,9 +10,10 @@ use Rattle.code.specs.Told as code
 use Rattle.listing.specs.Listing as listing
 use Rattle.rules.specs.Acts.{Acts}
 use Rattle.rules.specs.declared.Effect.{Effect}
-use Rattle.probe.specs.Instruction.{toldIf, isThere, EffectSame}
+use Rattle.probe.specs.Instruction.{toldIf, EffectSame}
+use Rattle.guards.specs.Guards.{isThere}
 use Rattle.probe.specs.Same.{SameTold, SameListed}
-use Rattle.probe.proofs.Ready.{not-second, each}
+use Rattle.guards.proofs.Ready.{not-second, each}
 
 pub told : {s t : code.Told} → s ≡ t → SameTold (record { number = s .number; value = s .value }) t
 told e = record { number = ap (λ (t : code.Told). t .number) e; value = ap (λ (t : code.Told). t .value) e }

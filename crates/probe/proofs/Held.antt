@@ -7,12 +7,12 @@ use native.Mathlib.Omega.{arith}
 use borrow.Author.Tests.{lt-ltb, le-ltb, ltb-true, ltb-false, le-leb, lt-leb, leb-true}
 use lib.Dec.{ltb}
 use mir.Val.{boolByte}
-use Rattle.rules.specs.declared.Depths.{Depths}
-use Rattle.rules.specs.Paths.{iteratorsNeeded, handlersNeeded}
+use Rattle.answer.specs.declared.Depths.{Depths}
+use Rattle.rules.specs.Needs.{iteratorsNeeded, handlersNeeded}
 use Rattle.rules.specs.There.{Held}
 use Rattle.probe.specs.declared.depths.DepthsTold.{DepthsTold}
 use Rattle.probe.specs.Depths.{holds, fits, none, Told}
-use Rattle.probe.proofs.Ready.{both}
+use Rattle.guards.proofs.Ready.{both}
 
 -- a truth value as a number
 pub byte : {a b : Bool} → a ≡ b → boolByte a ≡ cond b 1 0

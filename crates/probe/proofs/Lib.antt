@@ -1,4 +1,2 @@
 pub mod Across
-pub mod Ready
-pub mod Found
 pub mod Held

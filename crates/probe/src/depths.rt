@@ -3,7 +3,7 @@
 ghost use mathlib.Core.Path.{_≡_};
 ghost use Rattle.rules.specs.Shapes.{Flow};
 ghost use Rattle.probe.specs.Depths.{holds, fits, none, AfterSame, JumpedSame, NeededSame};
-use rules::Depths;
+use answer::Depths;
 use rules::Effect;
 use rules::edges;
 use rules::shapes;

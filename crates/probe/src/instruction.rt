@@ -3,7 +3,6 @@
 ghost use Rattle.probe.specs.Instruction.{EffectSame, requiredTold, targetsTold, edgesTold, targetTold};
 ghost use Rattle.probe.specs.Same.{SameTold};
 use crate::Told;
-use crate::entries;
 use rules::edges;
 use rules::effects;
 use rules::rights;
@@ -31,7 +30,7 @@ pub extern "C" fn probe_effect(
     ensures { λ r. ⌜ EffectSame (now (code .entry)) at (now (names .entry)) (now (chains .entry)) (now (steps .entry))
         (now (switches .entry)) (now (cases .entry)) (now (ranges .entry)) r ⌝ }
 {
-    if !entries::is_there(code, at, names, chains, steps, switches, cases, ranges) {
+    if !guards::is_there(code, at, names, chains, steps, switches, cases, ranges) {
         return EffectTold {
             number: 1,
             needs: 0,
@@ -63,7 +62,7 @@ pub extern "C" fn probe_required(
     ensures { λ r. ⌜ SameTold r (requiredTold (now (code .entry)) at (now (names .entry)) (now (chains .entry)) (now (steps .entry))
         (now (switches .entry)) (now (cases .entry)) (now (ranges .entry))) ⌝ }
 {
-    if !entries::is_there(code, at, names, chains, steps, switches, cases, ranges) {
+    if !guards::is_there(code, at, names, chains, steps, switches, cases, ranges) {
         return Told {
             number: 1,
             value: 0,
@@ -92,7 +91,7 @@ pub extern "C" fn probe_targets(
     ensures { λ r. ⌜ SameTold r (targetsTold (now (code .entry)) at (now (names .entry)) (now (chains .entry)) (now (steps .entry))
         (now (switches .entry)) (now (cases .entry)) (now (ranges .entry))) ⌝ }
 {
-    if !entries::is_there(code, at, names, chains, steps, switches, cases, ranges) {
+    if !guards::is_there(code, at, names, chains, steps, switches, cases, ranges) {
         return Told {
             number: 1,
             value: 0,
@@ -120,7 +119,7 @@ pub extern "C" fn probe_edges(
     ensures { λ r. ⌜ SameTold r (edgesTold (now (code .entry)) at (now (names .entry)) (now (chains .entry)) (now (steps .entry))
         (now (switches .entry)) (now (cases .entry)) (now (ranges .entry))) ⌝ }
 {
-    if !entries::is_there(code, at, names, chains, steps, switches, cases, ranges) {
+    if !guards::is_there(code, at, names, chains, steps, switches, cases, ranges) {
         return Told {
             number: 1,
             value: 0,
@@ -150,7 +149,7 @@ pub extern "C" fn probe_target(
     ensures { λ r. ⌜ SameTold r (targetTold (now (code .entry)) at (now (names .entry)) (now (chains .entry)) (now (steps .entry))
         (now (switches .entry)) (now (cases .entry)) (now (ranges .entry)) k) ⌝ }
 {
-    if !entries::is_there(code, at, names, chains, steps, switches, cases, ranges) {
+    if !guards::is_there(code, at, names, chains, steps, switches, cases, ranges) {
         return Told {
             number: 1,
             value: 0,

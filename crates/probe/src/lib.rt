@@ -13,7 +13,6 @@ use code::Width;
 use listing::Listed;
 
 pub mod depths;
-mod entries;
 pub mod instruction;
 pub mod prepared;
 pub mod whole;

@@ -1,9 +1,9 @@
 // Everything before the chunks, as its verdict in numbers. An input that passes is told as kind 0 with nothing counted.
 ghost use Rattle.before.specs.Input.{input};
 ghost use Rattle.probe.specs.Before.{Told};
-use rules::Outcome;
-use rules::verdict;
-use rules::verdict::Verdict;
+use answer::Outcome;
+use answer::verdict;
+use answer::verdict::Verdict;
 
 #[no_mangle]
 pub extern "C" fn probe_before(

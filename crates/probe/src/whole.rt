@@ -2,8 +2,8 @@
 ghost use lib.ListN.{length};
 ghost use Rattle.before.specs.Input.{input};
 ghost use Rattle.verify.specs.Call.{Calls};
-ghost use Rattle.verify.specs.Judging.{spansOf};
-use rules::verdict::Verdict;
+ghost use Rattle.judging.specs.Spans.{spansOf};
+use answer::verdict::Verdict;
 
 #[no_mangle]
 pub extern "C" fn probe_verify(

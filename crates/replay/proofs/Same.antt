@@ -10,8 +10,8 @@ use lib.ListN.{length, getD}
 use lib.Seq.{ext-getD}
 use Rattle.before.specs.Input.{Input}
 use Rattle.replay.specs.Compare.{Decides, Agrees, Answers}
-use Rattle.rules.specs.declared.verdict.Verdict.{Verdict}
-use Rattle.rules.specs.Script.{Span}
+use Rattle.answer.specs.declared.verdict.Verdict.{Verdict}
+use Rattle.demand.specs.Span.{Span}
 use Rattle.verify.specs.Call.{Memory, Result, result, Calls}
 
 -- an answer that is yes, and one that is no

@@ -18,7 +18,7 @@ use Rattle.replay.specs.declared.numbers.Place.{Place}
 use Rattle.replay.specs.declared.numbers.Place.the-variants.{At}
 use Rattle.replay.specs.declared.shape.Shape.{Shape}
 use Rattle.replay.specs.declared.shape.Tables.{Tables}
-use Rattle.verify.specs.Judging.{spansOf}
+use Rattle.judging.specs.Spans.{spansOf}
 
 -- the parts are those of the case
 pub told-of : (head numbers words declared names code : List ℕ) {t : Tables} {s : Shape} {room : Room} {rights functions tokens ops records work : ℕ}

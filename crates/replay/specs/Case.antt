@@ -12,8 +12,8 @@ use Rattle.replay.specs.Parts.{part}
 use Rattle.replay.specs.Shape.{tablesOf, shapeOf, roomOf}
 use Rattle.replay.specs.declared.case.Replayed.{Replayed}
 use Rattle.replay.specs.declared.case.Replayed.the-variants.{Same, Other, Broken}
-use Rattle.rules.specs.Script.{Span}
-use Rattle.verify.specs.Judging.{spansOf}
+use Rattle.demand.specs.Span.{Span}
+use Rattle.judging.specs.Spans.{spansOf}
 
 -- with these numbers, and these words and declared heights among them, and these bytes
 module _ (head numbers words declared names code : List ℕ) where

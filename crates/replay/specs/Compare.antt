@@ -6,8 +6,8 @@ use mathlib.Core.Path.{_≡_}
 use Prim.Native.Nat.{ℕ}
 use lib.ListN.{length, replicate}
 use Rattle.before.specs.Input.{Input}
-use Rattle.rules.specs.declared.verdict.Verdict.{Verdict}
-use Rattle.rules.specs.Script.{Span}
+use Rattle.answer.specs.declared.verdict.Verdict.{Verdict}
+use Rattle.demand.specs.Span.{Span}
 use Rattle.verify.specs.Call.{Memory, Result, result}
 
 -- an answer is true exactly where something holds

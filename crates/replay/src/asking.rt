@@ -5,7 +5,7 @@ ghost use lib.ListN.{length, replicate};
 ghost use Rattle.before.specs.Input.{input};
 ghost use Rattle.replay.specs.Compare.{Decides, Answers};
 ghost use Rattle.replay.specs.Lent.{lent};
-ghost use Rattle.verify.specs.Judging.{spansOf};
+ghost use Rattle.judging.specs.Spans.{spansOf};
 use crate::compare;
 
 // How many elements of each buffer are lent.

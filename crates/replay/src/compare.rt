@@ -2,7 +2,7 @@
 ghost use mathlib.Core.Path.{_≡_};
 ghost use lib.ListN.{length, replicate};
 ghost use Rattle.replay.specs.Compare.{Decides, Agrees, fields};
-use rules::verdict::Verdict;
+use answer::verdict::Verdict;
 
 // Are these numbers those told?
 pub fn same_numbers(numbers: &[u64], told: &[u64]) -> bool

@@ -18,7 +18,7 @@ use Rattle.rules.specs.Edges.{falls}
 use Rattle.rules.specs.Effects.{effect, operandsOf, needs, pops, pushes}
 use Rattle.rules.specs.Shapes.{Shape}
 use Rattle.rules.specs.There.{ChainEntry, ChainThere}
-use Rattle.rules.proofs.Lists.{zero≢one}
+use Rattle.answer.proofs.Apart.{zero≢one}
 use Rattle.rules.proofs.Operands.{tag-small}
 use Rattle.rules.proofs.Tests.{pass-at}
 

@@ -12,7 +12,7 @@ use Rattle.code.specs.Layout.{among, indexAt, targetAt}
 use Rattle.code.specs.Tags.{RETURN, THROW, SWITCH, JUMP, JUMP-IF-TRUE, JUMP-IF-FALSE, SKIP-IF-NOT-UNIT, ITER-NEXT, PUSH-HANDLER, ITER-NEXT-INDEXED, PUSH-HANDLER-VAR}
 use Rattle.code.specs.Width.{widthAt}
 use Rattle.pools.specs.Pools.{switchAt}
-use Rattle.rules.specs.declared.Depths.{Depths}
+use Rattle.answer.specs.declared.Depths.{Depths}
 use Rattle.rules.specs.Edges.{jumping, falls, armsOf, targetsOf, targets, edges, degree}
 use Rattle.rules.specs.Script.{Script, tagOf}
 use Rattle.rules.proofs.Arms.{arms-length}

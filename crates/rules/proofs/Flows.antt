@@ -5,9 +5,9 @@ use Prim.Native.Nat.{ℕ, _+_, _-_, _≤_}
 use native.Mathlib.Omega.{arith}
 use borrow.Author.Tests.{ne-eqb}
 use lib.Dec.{eqb}
-use Rattle.rules.specs.declared.Depths.{Depths}
+use Rattle.answer.specs.declared.Depths.{Depths}
 use Rattle.rules.specs.Edges.{afterOf, jumpedOf}
-use Rattle.rules.specs.Paths.{iteratorsNeeded, handlersNeeded}
+use Rattle.rules.specs.Needs.{iteratorsNeeded, handlersNeeded}
 use Rattle.rules.specs.Shapes.{Flow}
 use Rattle.rules.specs.There.{Held}
 

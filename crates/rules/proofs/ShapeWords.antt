@@ -13,7 +13,7 @@ use Rattle.code.specs.Tags.{iterNexts, pushHandlers}
 use Rattle.code.specs.Width.{widthOf}
 use Rattle.rules.specs.Edges.{jumping, falls, plain}
 use Rattle.rules.specs.Effects.{effect}
-use Rattle.rules.specs.Paths.{iteratorsNeeded, handlersNeeded}
+use Rattle.rules.specs.Needs.{iteratorsNeeded, handlersNeeded}
 use Rattle.rules.specs.Shapes.{placeFrom, Shape}
 use Rattle.rules.proofs.RightsWords.{rightly, rights-told}
 use Rattle.rules.proofs.Tests.{same, same→eq, all, pass}

@@ -9,14 +9,12 @@ use lib.Dec.{eqb}
 use lib.ListN.{length}
 use Rattle.code.specs.Layout.{among, tagAt, indexAt, targetAt}
 use Rattle.code.specs.Tags.{RETURN, THROW, ITER-INIT, ITER-DROP, POP-HANDLER, SWITCH, JUMP, SKIP-IF-NOT-UNIT, jumpIfs, iterNexts, pushHandlers}
-use Rattle.code.specs.Width.{widthOf, widthAt}
-use Rattle.listing.specs.Listing.{startsBefore}
+use Rattle.code.specs.Width.{widthAt}
 use Rattle.pools.specs.Pools.{Switch, Case, switchAt, casesOf, rangesOf}
-use Rattle.rules.specs.declared.Depths.{Depths}
-use Rattle.rules.specs.Depths.{Item}
+use Rattle.answer.specs.declared.Depths.{Depths}
+use Rattle.answer.specs.Depths.{Item}
 use Rattle.rules.specs.Effects.{pops, pushes}
-use Rattle.rules.specs.Lists.{sumOf}
-use Rattle.rules.specs.Script.{Script, Span, tagOf}
+use Rattle.rules.specs.Script.{Script, tagOf}
 
 -- the tags that name one target
 abbrev pub jumping : List ℕ
@@ -79,14 +77,3 @@ module _ (S : Script) (p : ℕ) where
   -- how many edges it has
   unfoldable pub degree : ℕ
   degree = length targets + cond (falls (tagOf S p)) 1 0
-
--- the starts in a chunk, and T and E over them
-module _ (S : Script) (span : Span) where
-  abbrev pub chunkStarts : List ℕ
-  chunkStarts = startsBefore widthOf (S .code) (span .end) (span .entry)
-
-  unfoldable pub T : ℕ
-  T = sumOf (λ p. length (targets S p)) chunkStarts
-
-  unfoldable pub E : ℕ
-  E = sumOf (degree S) chunkStarts

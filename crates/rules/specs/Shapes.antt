@@ -13,7 +13,7 @@ use Rattle.code.specs.Width.{widthOf}
 use Rattle.rules.specs.Asks.{Asks}
 use Rattle.rules.specs.Edges.{jumping, falls, plain}
 use Rattle.rules.specs.Effects.{effect}
-use Rattle.rules.specs.Paths.{iteratorsNeeded, handlersNeeded}
+use Rattle.rules.specs.Needs.{iteratorsNeeded, handlersNeeded}
 
 -- where the first count among fields stands, the first of which has this offset from the tag: the count's own offset, and 8
 -- more where it has two bytes; 0 where there is no count

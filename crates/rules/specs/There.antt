@@ -9,9 +9,9 @@ use lib.ListN.{length}
 use Rattle.code.specs.Layout.{among, tagAt, indexAt}
 use Rattle.code.specs.Tags.{CHAIN, SWITCH}
 use Rattle.pools.specs.Pools.{whole, chainAt, switchAt}
-use Rattle.rules.specs.declared.Depths.{Depths}
+use Rattle.answer.specs.declared.Depths.{Depths}
 use Rattle.rules.specs.Asks.{qualifiable}
-use Rattle.rules.specs.Paths.{iteratorsNeeded, handlersNeeded}
+use Rattle.rules.specs.Needs.{iteratorsNeeded, handlersNeeded}
 use Rattle.rules.specs.Shapes.{Flow}
 
 -- the chain of this number is in its table, and its steps are in theirs

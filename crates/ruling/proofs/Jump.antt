@@ -9,10 +9,11 @@ use lib.Dec.{ltb, leb}
 use Rattle.listing.specs.Listing.{starts}
 use Rattle.listing.proofs.Marked.{told-by-marks}
 use Rattle.marks.specs.Marks.{Holds, bitAt, isOne}
-use Rattle.rules.specs.declared.Answer.the-variants.{JumpOutOfRange, JumpIntoAnInstruction}
-use Rattle.rules.specs.Rule.{judge}
-use Rattle.rules.specs.Script.{Script, Span}
-use Rattle.rules.proofs.Lists.{zero≢one}
+use Rattle.answer.specs.declared.Answer.the-variants.{JumpOutOfRange, JumpIntoAnInstruction}
+use Rattle.demand.specs.Rule.{judge}
+use Rattle.rules.specs.Script.{Script}
+use Rattle.demand.specs.Span.{Span}
+use Rattle.answer.proofs.Apart.{zero≢one}
 use Rattle.ruling.specs.Ruling.{jumpTest}
 
 -- the two tests of a range: the second decides where the first does not

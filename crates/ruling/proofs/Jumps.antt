@@ -10,15 +10,16 @@ use lib.ListN.{length, getD, drop}
 use lib.Seq.{drop-cons, drop-length}
 use Rattle.listing.specs.Listing.{starts}
 use Rattle.marks.specs.Marks.{Holds}
-use Rattle.rules.specs.declared.Answer.{Answer}
-use Rattle.rules.specs.declared.Depths.{Depths}
-use Rattle.rules.specs.Depths.{Item}
-use Rattle.rules.specs.Rule.{judge}
-use Rattle.rules.specs.Script.{Script, Span}
-use Rattle.rules.specs.Walk.{firstBad}
-use Rattle.rules.specs.declared.Outcome.{Outcome}
-use Rattle.rules.specs.declared.Outcome.the-variants.{Passed, Refused}
-use Rattle.rules.specs.Answer.{told}
+use Rattle.answer.specs.declared.Answer.{Answer}
+use Rattle.answer.specs.declared.Depths.{Depths}
+use Rattle.answer.specs.Depths.{Item}
+use Rattle.demand.specs.Rule.{judge}
+use Rattle.rules.specs.Script.{Script}
+use Rattle.demand.specs.Span.{Span}
+use Rattle.machine.specs.Walk.{firstBad}
+use Rattle.answer.specs.declared.Outcome.{Outcome}
+use Rattle.answer.specs.declared.Outcome.the-variants.{Passed, Refused}
+use Rattle.answer.specs.Answer.{told}
 use Rattle.ruling.specs.Ruling.{jumpTest}
 use Rattle.ruling.proofs.Jump.{judged}
 

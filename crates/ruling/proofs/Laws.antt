@@ -4,14 +4,15 @@ use mathlib.Core.List.{map}
 use mathlib.Core.Option.{none, some}
 use mathlib.Core.Path.{_≡_}
 use Prim.Native.Nat.{ℕ}
-use Rattle.rules.specs.declared.Answer.{Answer}
-use Rattle.rules.specs.declared.Depths.{Depths}
+use Rattle.answer.specs.declared.Answer.{Answer}
+use Rattle.answer.specs.declared.Depths.{Depths}
 use Rattle.rules.specs.Edges.{falls, targets, after, jumped}
-use Rattle.rules.specs.Machine as machine
-use Rattle.rules.specs.Rule.{rule}
-use Rattle.rules.specs.Script.{Script, Span, tagOf}
-use Rattle.rules.proofs.Lists.{zero≢one}
-use Rattle.rules.proofs.Says.{Says, says, no-rights, no-operands, no-iterator, no-handler, no-next, goes}
+use Rattle.machine.specs.Machine as machine
+use Rattle.demand.specs.Rule.{rule}
+use Rattle.rules.specs.Script.{Script, tagOf}
+use Rattle.demand.specs.Span.{Span}
+use Rattle.answer.proofs.Apart.{zero≢one}
+use Rattle.demand.proofs.Says.{Says, says, no-rights, no-operands, no-iterator, no-handler, no-next, goes}
 use Rattle.ruling.specs.declared.Edges.{Edges}
 use Rattle.ruling.specs.declared.Ruling.{Ruling}
 use Rattle.ruling.specs.declared.Ruling.the-variants.{Denies, Gives}

@@ -13,27 +13,28 @@ use Rattle.code.specs.Layout.{tagAt}
 use Rattle.code.specs.Width.{widthOf, widthAt}
 use Rattle.code.proofs.Widths.{width-there}
 use Rattle.rules.specs.Acts.{Acts}
-use Rattle.rules.specs.declared.Answer.{Answer}
-use Rattle.rules.specs.declared.Answer.the-variants.{MissingCaps, Underflow, FallsOffTheEnd, IteratorUnderflow, HandlerUnderflow}
-use Rattle.rules.specs.declared.Depths.{Depths}
+use Rattle.answer.specs.declared.Answer.{Answer}
+use Rattle.answer.specs.declared.Answer.the-variants.{MissingCaps, Underflow, FallsOffTheEnd, IteratorUnderflow, HandlerUnderflow}
+use Rattle.answer.specs.declared.Depths.{Depths}
 use Rattle.rules.specs.declared.Effect.{Effect}
 use Rattle.rules.specs.Edges.{falls, plain, after, afterOf, jumpedOf, next}
 use Rattle.rules.specs.Effects.{needs, pops, pushes}
-use Rattle.rules.specs.Machine as machine
-use Rattle.rules.specs.Paths.{iteratorsNeeded, handlersNeeded}
+use Rattle.machine.specs.Machine as machine
+use Rattle.rules.specs.Needs.{iteratorsNeeded, handlersNeeded}
 use Rattle.rules.specs.Rights.{required, lacking}
-use Rattle.rules.specs.Rule.{rule}
-use Rattle.rules.specs.Script.{Script, Span, tagOf}
+use Rattle.demand.specs.Rule.{rule}
+use Rattle.rules.specs.Script.{Script, tagOf}
+use Rattle.demand.specs.Span.{Span}
 use Rattle.rules.specs.Shapes.{Flow}
 use Rattle.rules.specs.There.{HeldBy}
 use Rattle.rules.proofs.Amounts.{pops-within-needs, pushes-at-most-one}
-use Rattle.rules.proofs.Lists.{zero≢one}
-use Rattle.rules.proofs.Says as says
-use Rattle.rules.specs.declared.Outcome.{Outcome}
-use Rattle.rules.specs.declared.Outcome.the-variants.{Passed, Refused}
+use Rattle.answer.proofs.Apart.{zero≢one}
+use Rattle.demand.proofs.Says as says
+use Rattle.answer.specs.declared.Outcome.{Outcome}
+use Rattle.answer.specs.declared.Outcome.the-variants.{Passed, Refused}
 use Rattle.ruling.specs.declared.Ruling.{Ruling}
 use Rattle.ruling.specs.declared.Ruling.the-variants.{Denies, Gives}
-use Rattle.rules.specs.Answer.{told}
+use Rattle.answer.specs.Answer.{told}
 use Rattle.ruling.specs.Ruling.{needsTest, edgesFrom, leaving, unless, Settles, settled, answers, edgesOf, ruled}
 
 -- ---- what an instruction needs

@@ -8,15 +8,16 @@ use mathlib.Core.Option.{Option, none, some}
 use Prim.Native.Nat.{ℕ, _+_, _^_, _≤_, _<_}
 use lib.Dec.{ltb, leb}
 use Rattle.marks.specs.Marks.{bitAt, isOne}
-use Rattle.rules.specs.declared.Answer.{Answer}
-use Rattle.rules.specs.declared.Answer.the-variants.{MissingCaps, JumpOutOfRange, JumpIntoAnInstruction, Underflow, FallsOffTheEnd, IteratorUnderflow, HandlerUnderflow}
-use Rattle.rules.specs.declared.Depths.{Depths}
+use Rattle.answer.specs.declared.Answer.{Answer}
+use Rattle.answer.specs.declared.Answer.the-variants.{MissingCaps, JumpOutOfRange, JumpIntoAnInstruction, Underflow, FallsOffTheEnd, IteratorUnderflow, HandlerUnderflow}
+use Rattle.answer.specs.declared.Depths.{Depths}
 use Rattle.rules.specs.declared.Effect.{Effect}
 use Rattle.rules.specs.Edges.{falls, plain, afterOf, jumpedOf, after, jumped, next}
-use Rattle.rules.specs.Machine as machine
-use Rattle.rules.specs.Paths.{iteratorsNeeded, handlersNeeded}
-use Rattle.rules.specs.Rule.{rule}
-use Rattle.rules.specs.Script.{Script, Span, tagOf}
+use Rattle.machine.specs.Machine as machine
+use Rattle.rules.specs.Needs.{iteratorsNeeded, handlersNeeded}
+use Rattle.demand.specs.Rule.{rule}
+use Rattle.rules.specs.Script.{Script, tagOf}
+use Rattle.demand.specs.Span.{Span}
 use Rattle.rules.specs.Shapes.{Flow}
 use Rattle.ruling.specs.declared.Edges.{Edges}
 use Rattle.ruling.specs.declared.Ruling.{Ruling}

@@ -12,19 +12,19 @@ ghost use Rattle.code.specs.Layout.{tagAt};
 ghost use Rattle.code.specs.Width.{widthAt};
 ghost use Rattle.listing.specs.Listing.{starts};
 ghost use Rattle.marks.specs.Marks.{Holds};
-ghost use Rattle.rules.specs.declared.Depths.{Depths};
+ghost use Rattle.answer.specs.declared.Depths.{Depths};
 ghost use Rattle.rules.specs.Edges.{targetsOf};
-ghost use Rattle.rules.specs.Rule.{judge};
+ghost use Rattle.demand.specs.Rule.{judge};
 ghost use Rattle.rules.specs.Shapes.{Shape, Flow};
 ghost use Rattle.rules.specs.There.{NameThere, ChainThere, SwitchThere, HeldBy};
-ghost use Rattle.rules.specs.Walk.{firstBad};
-ghost use Rattle.rules.specs.Answer.{told};
+ghost use Rattle.machine.specs.Walk.{firstBad};
+ghost use Rattle.answer.specs.Answer.{told};
 ghost use Rattle.rules.specs.Script.{script};
 ghost use Rattle.ruling.specs.Ruling.{needsTest, leaving, Settles, settled, jumpTest, ruled};
-use rules::Answer;
-use rules::Depths;
+use answer::Answer;
+use answer::Depths;
 use rules::Effect;
-use rules::Outcome;
+use answer::Outcome;
 
 // Where control goes from an instruction: whether it falls through, the place after it, the depths just after it, and those at
 // each of its targets.

@@ -17,20 +17,22 @@ use Rattle.before.specs.Memory.{marksFrom}
 use Rattle.before.proofs.Established.{Established, established, room, marks-count}
 use Rattle.listing.specs.Listing.{starts}
 use Rattle.marks.specs.Marks.{total}
-use Rattle.rules.specs.Answer.{noChunk, numbered}
-use Rattle.rules.specs.Chunk.{passes, fails, judgeChunk}
-use Rattle.rules.specs.Chunk as chunk
-use Rattle.rules.specs.declared.Answer.{Answer}
-use Rattle.rules.specs.declared.Answer.the-variants.{Accepted}
-use Rattle.rules.specs.declared.verdict.Verdict.{Verdict}
-use Rattle.rules.specs.Script.{Script, Span}
-use Rattle.verify.specs.Accounts.{chunkAt, sumBelow, Filled, Accounted}
+use Rattle.answer.specs.Answer.{noChunk, numbered}
+use Rattle.demand.specs.Chunk.{passes, fails, judgeChunk}
+use Rattle.demand.specs.Chunk as chunk
+use Rattle.answer.specs.declared.Answer.{Answer}
+use Rattle.answer.specs.declared.Answer.the-variants.{Accepted}
+use Rattle.answer.specs.declared.verdict.Verdict.{Verdict}
+use Rattle.rules.specs.Script.{Script}
+use Rattle.demand.specs.Span.{Span}
+use Rattle.judging.specs.Spans.{chunkAt}
+use Rattle.verify.specs.Accounts.{sumBelow, Filled, Accounted}
 use Rattle.verify.specs.Call.{Memory, verdictOn, startBits, concluded, onward, outcome, result}
 use Rattle.verify.specs.Demand.{ComesToChunks}
-use Rattle.verify.specs.Judging.{Judged, judgeAll}
-use Rattle.verify.specs.declared.spans.Judgement.{Judgement}
-use Rattle.verify.specs.declared.spans.Judgement.the-variants.{Passed, Refused}
-use Rattle.verify.proofs.Chain.{chunk-next, judge-none, judge-passes, judge-fails}
+use Rattle.judging.specs.Judging.{Judged, judgeAll}
+use Rattle.judging.specs.declared.Judgement.{Judgement}
+use Rattle.judging.specs.declared.Judgement.the-variants.{Passed, Refused}
+use Rattle.judging.proofs.Chain.{chunk-next, judge-none, judge-passes, judge-fails}
 use Rattle.verify.proofs.Chunks.{passes-written, passes-measures, fails-refuses}
 
 -- the numbers of a chunk that passes

@@ -15,24 +15,25 @@ use Rattle.before.proofs.Established.{established, marks-count, room}
 use Rattle.listing.specs.Listing.{starts}
 use Rattle.marks.specs.Marks.{total}
 use Rattle.opening.specs.Ready.{Ready, Marked}
-use Rattle.rules.specs.Answer.{noChunk, numbered, told}
-use Rattle.rules.specs.Chunk.{passes, fails, judgeChunk}
-use Rattle.rules.specs.Chunk as chunk
-use Rattle.rules.specs.declared.Answer.{Answer}
-use Rattle.rules.specs.declared.Outcome.{Outcome}
-use Rattle.rules.specs.declared.Outcome.the-variants.{Passed, Refused}
-use Rattle.rules.specs.declared.verdict.Verdict.{Verdict}
-use Rattle.rules.specs.Script.{Script, Span}
-use Rattle.rules.proofs.Lists.{zero≢one}
-use Rattle.verify.specs.declared.spans.Judgement.{Judgement}
-use Rattle.verify.specs.declared.spans.Judgement.the-variants.{Passed as AllPass, Refused as Failed}
+use Rattle.answer.specs.Answer.{noChunk, numbered, told}
+use Rattle.demand.specs.Chunk.{passes, fails, judgeChunk}
+use Rattle.demand.specs.Chunk as chunk
+use Rattle.answer.specs.declared.Answer.{Answer}
+use Rattle.answer.specs.declared.Outcome.{Outcome}
+use Rattle.answer.specs.declared.Outcome.the-variants.{Passed, Refused}
+use Rattle.answer.specs.declared.verdict.Verdict.{Verdict}
+use Rattle.rules.specs.Script.{Script}
+use Rattle.demand.specs.Span.{Span}
+use Rattle.answer.proofs.Apart.{zero≢one}
+use Rattle.judging.specs.declared.Judgement.{Judgement}
+use Rattle.judging.specs.declared.Judgement.the-variants.{Passed as AllPass, Refused as Failed}
 use Rattle.verify.specs.declared.stages.State.{State}
 use Rattle.verify.specs.declared.stages.State.the-variants.{Going, Ended}
-use Rattle.verify.specs.Accounts.{chunkAt}
+use Rattle.judging.specs.Spans.{chunkAt}
 use Rattle.verify.specs.Call.{Memory, BothClear, marksOn, Calls}
-use Rattle.verify.specs.Judging.{Judged, judgeAll, Judges}
+use Rattle.judging.specs.Judging.{Judged, judgeAll, Judges}
 use Rattle.verify.specs.Stages.{opened, wordsOn, Begins, advanced, marksThen, Advances, Fits, Few, Asks, Takes, goesOn, finished}
-use Rattle.verify.proofs.Chain.{judge-passes, judge-fails, judge-none, Judging, judging-first, judging-done, judging-fails, judging-passes}
+use Rattle.judging.proofs.Chain.{judge-passes, judge-fails, judge-none, Judging, judging-first, judging-done, judging-fails, judging-passes}
 use Rattle.verify.proofs.Small.{small}
 use Rattle.verify.proofs.Whole.{bare, ready, untouched, zeroed-all, marked-so, starts-small, judged-call, zeros-still, concludes-passed, concludes-refused}
 

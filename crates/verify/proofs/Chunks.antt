@@ -5,18 +5,20 @@ use mathlib.Core.Option.{Option, none, some}
 use mathlib.Core.Path.{_≡_, refl, sym, subst, _∙_}
 use Prim.Native.Nat.{ℕ}
 use Rattle.before.specs.Input.{Input}
-use Rattle.before.proofs.Established.{Established, before-walk}
+use Rattle.before.proofs.Established.{Established}
+use Rattle.verify.proofs.Walkable.{before-walk}
 use Rattle.opening.specs.Tests.{spanTest, roomTest}
 use Rattle.opening.proofs.Tests.{span-passed, room-passed, span-judged, room-judged}
-use Rattle.rules.specs.Chunk.{Judged, passes, fails, judgeChunk, BeforeWalk}
-use Rattle.rules.specs.Edges.{T, E}
-use Rattle.rules.specs.Measures.{Measures}
-use Rattle.rules.specs.Refusals.{Real, Exceeds}
-use Rattle.rules.specs.Script.{Script, Span}
-use Rattle.rules.specs.Writing.{Writing}
-use Rattle.rules.specs.declared.Answer.{Answer}
-use Rattle.rules.proofs.Demand.{judged-walks, accepted-exactly, accepted-measures, refused-really}
-use Rattle.rules.proofs.Lists.{zero≢one}
+use Rattle.demand.specs.Chunk.{Judged, passes, fails, judgeChunk, BeforeWalk}
+use Rattle.demand.specs.Span.{T, E}
+use Rattle.demand.specs.Measures.{Measures}
+use Rattle.demand.specs.Refusals.{Real, Exceeds}
+use Rattle.rules.specs.Script.{Script}
+use Rattle.demand.specs.Span.{Span}
+use Rattle.demand.specs.Writing.{Writing}
+use Rattle.answer.specs.declared.Answer.{Answer}
+use Rattle.demand.proofs.Demand.{judged-walks, accepted-exactly, accepted-measures, refused-really}
+use Rattle.answer.proofs.Apart.{zero≢one}
 use Rattle.verify.specs.Demand.{Opens}
 use Rattle.verify.proofs.Sorts.{Refuses, span-kind, fits-kind, real-kind}
 

@@ -10,13 +10,13 @@ use native.Mathlib.Omega.{arith}
 use lib.ListN.{length}
 use Rattle.before.specs.Before.{Test, beforeStores, afterStores}
 use Rattle.before.specs.Input.{Input}
-use Rattle.rules.specs.Chunk.{passes, fails}
-use Rattle.rules.specs.Chunk as chunk
-use Rattle.rules.specs.declared.verdict.Verdict.{Verdict}
-use Rattle.rules.specs.Script.{Span}
-use Rattle.rules.specs.Writing.{Writing}
-use Rattle.rules.proofs.Lists.{zero≢one}
-use Rattle.verify.specs.Accounts.{chunkAt}
+use Rattle.demand.specs.Chunk.{passes, fails}
+use Rattle.demand.specs.Chunk as chunk
+use Rattle.answer.specs.declared.verdict.Verdict.{Verdict}
+use Rattle.demand.specs.Span.{Span}
+use Rattle.demand.specs.Writing.{Writing}
+use Rattle.answer.proofs.Apart.{zero≢one}
+use Rattle.judging.specs.Spans.{chunkAt}
 use Rattle.verify.specs.Call.{Memory, onward, outcome, result, Calls}
 use Rattle.verify.specs.Demand.{ComesToChunks, OpensAt, Good, Acceptable, Fills, RefusedAt}
 use Rattle.verify.proofs.Accounts.{judgedAt, passes-at, Ways, all-pass, one-fails, ways, known, PassesIn, refuses, fills-before, accepts-kind, fills-all, all-passed}

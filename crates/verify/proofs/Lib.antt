@@ -1,6 +1,4 @@
 -- The laws that proofs cite.
-pub mod Chain
-pub mod Walking
 pub mod Sorts
 pub mod Chunks
 pub mod Accounts
@@ -8,3 +6,4 @@ pub mod Whole
 pub mod Small
 pub mod Between
 pub mod Demand
+pub mod Walkable

@@ -6,19 +6,20 @@ use Prim.Native.Nat.{ℕ, _+_, _^_, _≤_}
 use native.Mathlib.Omega.{arith}
 use lib.Dec.{ltb}
 use Rattle.opening.specs.Ready.{Ready}
-use Rattle.rules.specs.declared.Answer.{Answer}
-use Rattle.rules.specs.declared.Answer.the-variants.{StackExceedsDeclared}
-use Rattle.rules.specs.Chunk.{Judged, passes, fails, measured, walked, judgeChunk, BeforeWalk}
-use Rattle.rules.specs.Edges.{E}
-use Rattle.rules.specs.Rule.{machine}
-use Rattle.rules.specs.Script.{Script, Span}
-use Rattle.rules.specs.Walk.{Run, accepted, refused, unfinished, Log, log, walk}
-use Rattle.rules.proofs.Demand.{judged-walks, few-instructions}
-use Rattle.rules.proofs.Ends.{accepted-bounded}
-use Rattle.rules.proofs.Keeps.{keeps-laws}
-use Rattle.rules.proofs.Lists.{zero≢one}
+use Rattle.answer.specs.declared.Answer.{Answer}
+use Rattle.answer.specs.declared.Answer.the-variants.{StackExceedsDeclared}
+use Rattle.demand.specs.Chunk.{Judged, passes, fails, measured, walked, judgeChunk, BeforeWalk}
+use Rattle.demand.specs.Span.{E}
+use Rattle.demand.specs.Rule.{machine}
+use Rattle.rules.specs.Script.{Script}
+use Rattle.demand.specs.Span.{Span}
+use Rattle.machine.specs.Walk.{Run, accepted, refused, unfinished, Log, log, walk}
+use Rattle.demand.proofs.Demand.{judged-walks, few-instructions}
+use Rattle.machine.proofs.Ends.{accepted-bounded}
+use Rattle.demand.proofs.Keeps.{keeps-laws}
+use Rattle.answer.proofs.Apart.{zero≢one}
 use Rattle.verify.proofs.Chunks.{passes-opens}
-use Rattle.verify.proofs.Walking.{few-edges}
+use Rattle.judging.proofs.Walking.{few-edges}
 
 module _ (S : Script) (R : Ready S) (span : Span) (records work : ℕ) where
   before : {h r t : ℕ} → judgeChunk S span records work ≡ passes h r t → BeforeWalk S span records work

@@ -22,13 +22,14 @@ use Rattle.opening.specs.Tests as own
 use Rattle.pools.specs.declared.limits.Sizes.{Sizes}
 use Rattle.pools.specs.Sizes.{firstExceeded}
 use Rattle.pools.specs.Tables.{firstBad}
-use Rattle.rules.specs.Refusals.{Real, lacks-rights, leaves, splits, disagrees, underflows, runs-off, no-iterator, no-handler, Exceeds}
+use Rattle.demand.specs.Refusals.{Real, lacks-rights, leaves, splits, disagrees, underflows, runs-off, no-iterator, no-handler, Exceeds}
 use Rattle.rules.specs.Rights.{lacking}
-use Rattle.rules.specs.Script.{Script, Span}
-use Rattle.rules.proofs.Lists.{zero≢one}
-use Rattle.rules.specs.Answer.{noChunk, numbered}
-use Rattle.rules.specs.declared.Answer.{Answer}
-use Rattle.rules.specs.declared.Answer.the-variants.{TooLarge, BadTable, NoRoom, MissingCaps, Undecodable, BadIndex, ChunkOutOfRange, Misaligned}
+use Rattle.rules.specs.Script.{Script}
+use Rattle.demand.specs.Span.{Span}
+use Rattle.answer.proofs.Apart.{zero≢one}
+use Rattle.answer.specs.Answer.{noChunk, numbered}
+use Rattle.answer.specs.declared.Answer.{Answer}
+use Rattle.answer.specs.declared.Answer.the-variants.{TooLarge, BadTable, NoRoom, MissingCaps, Undecodable, BadIndex, ChunkOutOfRange, Misaligned}
 
 -- P holds of whatever a test answers
 pub record Gives (P : Answer → Type 0) (t : Test) : Type 0 where

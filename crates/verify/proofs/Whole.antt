@@ -18,28 +18,30 @@ use Rattle.marks.specs.Marks.{total}
 use Rattle.marks.proofs.Counts.{rising-length}
 use Rattle.opening.specs.Ready.{Ready, Marked}
 use Rattle.pools.specs.Sizes.{maxCode}
-use Rattle.rules.specs.Answer.{noChunk, numbered, told}
-use Rattle.rules.specs.Chunk.{passes, fails, measured, judgeChunk, walked}
-use Rattle.rules.specs.Chunk as chunk
-use Rattle.rules.specs.declared.Answer.{Answer}
-use Rattle.rules.specs.declared.Answer.the-variants.{Accepted}
-use Rattle.rules.specs.declared.Outcome.{Outcome}
-use Rattle.rules.specs.declared.Outcome.the-variants.{Passed, Refused}
-use Rattle.rules.specs.declared.verdict.Verdict.{Verdict}
+use Rattle.answer.specs.Answer.{noChunk, numbered, told}
+use Rattle.demand.specs.Chunk.{passes, fails, measured, judgeChunk, walked}
+use Rattle.demand.specs.Chunk as chunk
+use Rattle.answer.specs.declared.Answer.{Answer}
+use Rattle.answer.specs.declared.Answer.the-variants.{Accepted}
+use Rattle.answer.specs.declared.Outcome.{Outcome}
+use Rattle.answer.specs.declared.Outcome.the-variants.{Passed, Refused}
+use Rattle.answer.specs.declared.verdict.Verdict.{Verdict}
 use Rattle.code.specs.Layout.{among}
-use Rattle.rules.specs.Edges.{T, E, degree, next, targets, chunkStarts}
-use Rattle.rules.specs.Machine.{Machine}
-use Rattle.rules.specs.Rule.{rule, judge, allTargets, machine}
-use Rattle.rules.specs.Walk.{walk, log}
-use Rattle.rules.specs.Script.{Script, Span, script}
-use Rattle.rules.proofs.Lists.{zero≢one}
-use Rattle.verify.specs.Judging.{Judged, judgeAll, Judges}
-use Rattle.verify.specs.declared.spans.Judgement.{Judgement}
-use Rattle.verify.specs.declared.spans.Judgement.the-variants.{Passed as AllPass, Refused as Failed}
+use Rattle.demand.specs.Span.{T, E, chunkStarts}
+use Rattle.rules.specs.Edges.{degree, next, targets}
+use Rattle.machine.specs.Machine.{Machine}
+use Rattle.demand.specs.Rule.{rule, judge, allTargets, machine}
+use Rattle.machine.specs.Walk.{walk, log}
+use Rattle.rules.specs.Script.{Script, script}
+use Rattle.demand.specs.Span.{Span}
+use Rattle.answer.proofs.Apart.{zero≢one}
+use Rattle.judging.specs.Judging.{Judged, judgeAll, Judges}
+use Rattle.judging.specs.declared.Judgement.{Judgement}
+use Rattle.judging.specs.declared.Judgement.the-variants.{Passed as AllPass, Refused as Failed}
 use Rattle.verify.specs.Call.{Memory, BothClear, verdictOn, marksOn, startBits, concluded, onward, outcome, result, Calls}
 use Rattle.verify.specs.Demand.{ComesToChunks}
 use Rattle.verify.proofs.Accounts.{accounted}
-use Rattle.verify.proofs.Chain.{judge-passes, judge-fails}
+use Rattle.judging.proofs.Chain.{judge-passes, judge-fails}
 use Rattle.verify.proofs.Sorts.{early-kind, late-kind}
 
 -- ---- constants, tokens and op-assignments are no matter to a chunk

@@ -9,14 +9,12 @@ use mathlib.Core.Path.{_≡_}
 use Prim.Native.Nat.{ℕ, zero, suc, _+_, _≤_, _<_}
 use lib.ListN.{length, getD}
 use Rattle.listing.specs.Listing.{starts}
-use Rattle.rules.specs.declared.verdict.Verdict.{Verdict}
-use Rattle.rules.specs.Measures.{Measures}
-use Rattle.rules.specs.Script.{Script, Span}
-use Rattle.rules.specs.Writing.{Writing}
-
--- the span of the chunk of a number; what it is where there is no such chunk is no matter
-abbrev pub chunkAt : List Span → ℕ → Span
-chunkAt spans i = getD spans i (record { entry = 0; end = 0; declared = 0 })
+use Rattle.answer.specs.declared.verdict.Verdict.{Verdict}
+use Rattle.demand.specs.Measures.{Measures}
+use Rattle.rules.specs.Script.{Script}
+use Rattle.demand.specs.Span.{Span}
+use Rattle.demand.specs.Writing.{Writing}
+use Rattle.judging.specs.Spans.{chunkAt}
 
 -- the sum of f i over the numbers i below n
 unfoldable pub sumBelow : (f : ℕ → ℕ) (n : ℕ) → ℕ

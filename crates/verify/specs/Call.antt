@@ -11,14 +11,14 @@ use Rattle.before.specs.Before.{Test, beforeStores, afterStores}
 use Rattle.before.specs.Input.{Input}
 use Rattle.before.specs.Memory.{marksOf}
 use Rattle.marks.specs.Marks.{total}
-use Rattle.rules.specs.Answer.{noChunk, numbered}
-use Rattle.rules.specs.declared.Answer.the-variants.{Accepted}
-use Rattle.rules.specs.declared.verdict.Verdict.{Verdict}
-use Rattle.rules.specs.Script.{Span}
-use Rattle.verify.specs.declared.spans.Judgement.{Judgement}
-use Rattle.verify.specs.declared.spans.Judgement.the-variants.{Passed, Refused}
+use Rattle.answer.specs.Answer.{noChunk, numbered}
+use Rattle.answer.specs.declared.Answer.the-variants.{Accepted}
+use Rattle.answer.specs.declared.verdict.Verdict.{Verdict}
+use Rattle.demand.specs.Span.{Span}
+use Rattle.judging.specs.declared.Judgement.{Judgement}
+use Rattle.judging.specs.declared.Judgement.the-variants.{Passed, Refused}
 use Rattle.verify.specs.Accounts.{Accounted}
-use Rattle.verify.specs.Judging.{Judged, judgeAll}
+use Rattle.judging.specs.Judging.{Judged, judgeAll}
 
 -- the lent memory
 pub record Memory : Type 0 where

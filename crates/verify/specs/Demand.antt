@@ -9,15 +9,17 @@ use Prim.Native.Nat.{ℕ, _+_, _*_, _≤_, _<_}
 use lib.ListN.{length}
 use Rattle.before.specs.Before.{beforeStores, afterStores}
 use Rattle.before.specs.Input.{Input}
-use Rattle.opening.specs.Ready.{InCode}
-use Rattle.rules.specs.Answer.{numbered}
-use Rattle.rules.specs.declared.Answer.{Answer}
-use Rattle.rules.specs.declared.verdict.Verdict.{Verdict}
-use Rattle.rules.specs.Edges.{T, E}
-use Rattle.rules.specs.Refusals.{Real, Exceeds}
-use Rattle.rules.specs.Script.{Script, Span}
-use Rattle.rules.specs.Writing.{Writing}
-use Rattle.verify.specs.Accounts.{chunkAt, Filled}
+use Rattle.demand.specs.Span.{InCode}
+use Rattle.answer.specs.Answer.{numbered}
+use Rattle.answer.specs.declared.Answer.{Answer}
+use Rattle.answer.specs.declared.verdict.Verdict.{Verdict}
+use Rattle.demand.specs.Span.{T, E}
+use Rattle.demand.specs.Refusals.{Real, Exceeds}
+use Rattle.rules.specs.Script.{Script}
+use Rattle.demand.specs.Span.{Span}
+use Rattle.demand.specs.Writing.{Writing}
+use Rattle.judging.specs.Spans.{chunkAt}
+use Rattle.verify.specs.Accounts.{Filled}
 use Rattle.verify.specs.Call.{Memory, result}
 
 -- a chunk passes its own tests before its walk, where so many words of records and of work are lent

@@ -13,16 +13,17 @@ use Rattle.before.specs.Input.{Input}
 use Rattle.before.specs.Memory.{marksAfter}
 use Rattle.marks.specs.Marks.{total}
 use Rattle.opening.specs.Ready.{Ready, Marked}
-use Rattle.rules.specs.Answer.{noChunk, numbered}
-use Rattle.rules.specs.declared.Answer.the-variants.{Accepted}
-use Rattle.rules.specs.declared.verdict.Verdict.{Verdict}
-use Rattle.rules.specs.Script.{Script, Span}
-use Rattle.verify.specs.declared.spans.Judgement.{Judgement}
-use Rattle.verify.specs.declared.spans.Judgement.the-variants.{Passed, Refused}
+use Rattle.answer.specs.Answer.{noChunk, numbered}
+use Rattle.answer.specs.declared.Answer.the-variants.{Accepted}
+use Rattle.answer.specs.declared.verdict.Verdict.{Verdict}
+use Rattle.rules.specs.Script.{Script}
+use Rattle.demand.specs.Span.{Span}
+use Rattle.judging.specs.declared.Judgement.{Judgement}
+use Rattle.judging.specs.declared.Judgement.the-variants.{Passed, Refused}
 use Rattle.verify.specs.declared.stages.State.{State}
 use Rattle.verify.specs.declared.stages.State.the-variants.{Going, Ended}
 use Rattle.verify.specs.Call.{marksOn}
-use Rattle.verify.specs.Judging.{Judged, judgeAll}
+use Rattle.judging.specs.Judging.{Judged, judgeAll}
 
 -- ---- before the chunks
 

@@ -3,13 +3,12 @@
 // Left to the caller: what a host does with a script that passes.
 ghost use Rattle.before.specs.Input.{input};
 ghost use Rattle.verify.specs.Call.{Calls};
-ghost use Rattle.verify.specs.Judging.{spansOf};
+ghost use Rattle.judging.specs.Spans.{spansOf};
 ghost use lib.ListN.{length};
 
-pub mod spans;
 pub mod stages;
 
-use rules::verdict::Verdict;
+use answer::verdict::Verdict;
 use stages::State;
 
 // The whole call over flat spans, of any input. There are as many chunks as the shortest of the three lists of spans has.
@@ -42,7 +41,7 @@ pub fn verify(
         r
         (record { marks = now (marks .exit); heights = now (heights .exit); records = now (records .exit); work = now (work .exit) }) ⌝ }
 {
-    let chunks = spans::least(entries.len(), ends.len(), declared.len());
+    let chunks = judging::least(entries.len(), ends.len(), declared.len());
     let room = heights.len();
     let state = stages::begin(
         rights,
@@ -66,7 +65,7 @@ pub fn verify(
     if let State::Ended(verdict) = state {
         return verdict;
     }
-    let judgement = spans::judge_spans(
+    let judgement = judging::judge_spans(
         rights,
         names,
         chains,

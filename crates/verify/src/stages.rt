@@ -5,12 +5,11 @@ ghost use Rattle.before.specs.Input.{input};
 ghost use Rattle.rules.specs.Script.{script};
 ghost use Rattle.verify.specs.Call.{BothClear};
 ghost use Rattle.verify.specs.Stages.{Begins, Fits, Advances, Asks, Takes, goesOn, finished};
-use crate::spans;
-use crate::spans::Judgement;
-use rules::Answer;
-use rules::Outcome;
-use rules::verdict;
-use rules::verdict::Verdict;
+use judging::Judgement;
+use answer::Answer;
+use answer::Outcome;
+use answer::verdict;
+use answer::verdict::Verdict;
 
 // A call between two stages: it goes on, with what is counted so far, or it has ended with its verdict.
 pub enum State {
@@ -149,7 +148,7 @@ pub fn take_span(
         (record { entry = entry; end = end; declared = declared }) number state (now (marks .entry)) (now (heights .entry))
         r (now (marks .exit)) (now (heights .exit)) (now (records .exit)) (now (work .exit)) ⌝ }
 {
-    let judgement = spans::verify_span(
+    let judgement = judging::verify_span(
         rights,
         names,
         chains,

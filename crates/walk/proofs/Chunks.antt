@@ -8,21 +8,22 @@ use lib.Dec.{ltb}
 use lib.ListN.{length}
 use Rattle.code.specs.Width.{widthOf}
 use Rattle.listing.proofs.Before.{before-few}
-use Rattle.rules.specs.declared.Answer.{Answer}
-use Rattle.rules.specs.declared.Answer.the-variants.{StackExceedsDeclared}
-use Rattle.rules.specs.Chunk.{passes, fails, measured, walked, judgeChunk, redeclared, BeforeWalk}
-use Rattle.rules.specs.Depths.{Item}
-use Rattle.rules.specs.Edges.{E}
-use Rattle.rules.specs.Machine.{origin}
-use Rattle.rules.specs.Rule.{machine, rule, judge}
-use Rattle.rules.specs.Script.{Script, Span}
-use Rattle.rules.specs.Walk.{Book, blank, Turn, goes-on, stops, Run, accepted, refused, unfinished, run, walk, Log, log}
-use Rattle.rules.proofs.Demand.{judged-walks, redeclared-before}
-use Rattle.rules.proofs.Ends.{accepted-bounded, refused-bounded}
-use Rattle.rules.proofs.Keeps.{keeps-laws}
-use Rattle.rules.proofs.Slices.{next-goes-on, next-stops, stays-accepted, stays-refused}
-use Rattle.rules.proofs.Stores.{Tells, same-accepted, same-refused}
-use Rattle.rules.proofs.Turn.{Taken, again, enters, turn-is, taken-so}
+use Rattle.answer.specs.declared.Answer.{Answer}
+use Rattle.answer.specs.declared.Answer.the-variants.{StackExceedsDeclared}
+use Rattle.demand.specs.Chunk.{passes, fails, measured, walked, judgeChunk, redeclared, BeforeWalk}
+use Rattle.answer.specs.Depths.{Item}
+use Rattle.demand.specs.Span.{E}
+use Rattle.machine.specs.Machine.{origin}
+use Rattle.demand.specs.Rule.{machine, rule, judge}
+use Rattle.rules.specs.Script.{Script}
+use Rattle.demand.specs.Span.{Span}
+use Rattle.machine.specs.Walk.{Book, blank, Turn, goes-on, stops, Run, accepted, refused, unfinished, run, walk, Log, log}
+use Rattle.demand.proofs.Demand.{judged-walks, redeclared-before}
+use Rattle.machine.proofs.Ends.{accepted-bounded, refused-bounded}
+use Rattle.demand.proofs.Keeps.{keeps-laws}
+use Rattle.machine.proofs.Slices.{next-goes-on, next-stops, stays-accepted, stays-refused}
+use Rattle.machine.proofs.Stores.{Tells, same-accepted, same-refused}
+use Rattle.machine.proofs.Turn.{Taken, again, enters, turn-is, taken-so}
 use Rattle.words.specs.Stack.{items, Clear}
 use Rattle.words.proofs.Items.{items-none}
 use Rattle.walk.specs.declared.Counts.{Counts}

@@ -6,7 +6,7 @@ use Prim.Native.Nat.{ℕ, _+_, _*_, _≤_}
 use native.Mathlib.Omega.{arith}
 use lib.ListN.{length, take, length-map}
 use Rattle.order.specs.Order.{Rising, below}
-use Rattle.rules.proofs.Lists.{zero≢one}
+use Rattle.answer.proofs.Apart.{zero≢one}
 use Rattle.ruling.specs.declared.Edges.{Edges}
 use Rattle.words.specs.Stack.{Clear}
 use Rattle.words.proofs.Items.{clear-putAll, length-putAll}

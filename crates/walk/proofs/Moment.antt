@@ -7,21 +7,23 @@ use native.Mathlib.Omega.{arith}
 use lib.ListN.{length}
 use Rattle.code.specs.Width.{widthOf}
 use Rattle.listing.proofs.Before.{before-few}
-use Rattle.rules.specs.Chunk.{BeforeWalk}
-use Rattle.rules.specs.Edges.{E, degree, chunkStarts}
-use Rattle.rules.specs.Lists.{here}
-use Rattle.rules.specs.Rule.{machine}
-use Rattle.rules.specs.Script.{Script, Span}
-use Rattle.rules.specs.Script as script
-use Rattle.rules.specs.Walk.{Book, Log, unfinished, walk, log}
-use Rattle.rules.proofs.Ends.{Bounded}
-use Rattle.rules.proofs.Inside.{inside}
-use Rattle.rules.proofs.Keeps.{keeps-laws}
-use Rattle.rules.proofs.Laws.{InChunk}
-use Rattle.rules.proofs.Once.{item-inside}
-use Rattle.rules.proofs.Sound.{sound-unfinished}
-use Rattle.rules.proofs.Stores.{Tells, same-unfinished, store-bounded, store-roomy}
-use Rattle.rules.proofs.Turn.{New}
+use Rattle.demand.specs.Chunk.{BeforeWalk}
+use Rattle.demand.specs.Span.{E, chunkStarts}
+use Rattle.rules.specs.Edges.{degree}
+use Rattle.machine.specs.Lists.{here}
+use Rattle.demand.specs.Rule.{machine}
+use Rattle.rules.specs.Script.{Script}
+use Rattle.demand.specs.Span.{Span}
+use Rattle.demand.specs.Span as spans
+use Rattle.machine.specs.Walk.{Book, Log, unfinished, walk, log}
+use Rattle.machine.proofs.Ends.{Bounded}
+use Rattle.demand.proofs.Inside.{inside}
+use Rattle.demand.proofs.Keeps.{keeps-laws}
+use Rattle.machine.proofs.Laws.{InChunk}
+use Rattle.machine.proofs.Once.{item-inside}
+use Rattle.machine.proofs.Sound.{sound-unfinished}
+use Rattle.machine.proofs.Stores.{Tells, same-unfinished, store-bounded, store-roomy}
+use Rattle.machine.proofs.Turn.{New}
 use Rattle.words.specs.Stack.{items}
 use Rattle.words.proofs.Items.{length-items}
 use Rattle.walk.specs.declared.Hand.{Hand}
@@ -44,7 +46,7 @@ module _ (S : Script) (room : Room) (records work : List ℕ) (B : BeforeWalk S 
   fit = over-log .2 .fit
 
   -- an item before the end is at an instruction of the chunk
-  pub in-chunk : h .place < span .end → script.InChunk S span (h .place)
+  pub in-chunk : h .place < span .end → spans.InChunk S span (h .place)
   in-chunk below =
       inside S span (item-inside (machine S span) (sound-unfinished (machine S span) (degree S) (keeps-laws S span B) (h .taken) (over-log .1) .holds .once) below)
 

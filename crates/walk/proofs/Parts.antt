@@ -9,9 +9,9 @@ use lib.Dec.{ltb, eqb}
 use lib.ListN.{length, getD, drop, drop-of-length-le}
 use lib.Seq.{drop-cons}
 use Rattle.order.specs.Order.{below}
-use Rattle.rules.specs.declared.Depths.{Depths}
-use Rattle.rules.specs.Depths.{zeros}
-use Rattle.rules.proofs.Lists.{zero≢one}
+use Rattle.answer.specs.declared.Depths.{Depths}
+use Rattle.answer.specs.Depths.{zeros}
+use Rattle.answer.proofs.Apart.{zero≢one}
 use Rattle.words.specs.Stack.{itemAt, items, put, putAll, Clear}
 use Rattle.words.proofs.Items.{length-put, items-on, items-kept, clear-top}
 use Rattle.walk.specs.declared.Hand.{Hand}

@@ -11,12 +11,13 @@ use lib.ListN.{length, getD, set, take, replicate, length-append, length-replica
 use lib.Seq.{sets, take-set-le, take-at, getD-append-add}
 use Rattle.code.specs.Layout.{among}
 use Rattle.order.specs.Order.{below}
-use Rattle.rules.specs.declared.Depths.{Depths}
-use Rattle.rules.specs.Depths.{Item}
-use Rattle.rules.specs.Edges.{T}
-use Rattle.rules.specs.Rule.{machine}
-use Rattle.rules.specs.Script.{Script, Span}
-use Rattle.rules.proofs.Stores.{Noting, Faithful}
+use Rattle.answer.specs.declared.Depths.{Depths}
+use Rattle.answer.specs.Depths.{Item}
+use Rattle.demand.specs.Span.{T}
+use Rattle.demand.specs.Rule.{machine}
+use Rattle.rules.specs.Script.{Script}
+use Rattle.demand.specs.Span.{Span}
+use Rattle.machine.proofs.Stores.{Noting, Faithful}
 use Rattle.words.specs.Seen.{seenAt, noteAt}
 use Rattle.words.proofs.Notes.{length-note, kept-behind, seen-before, seen-behind, seen-noted, none-seen}
 use Rattle.opening.specs.Records.{named, keys, laid}

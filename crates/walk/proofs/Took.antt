@@ -6,19 +6,19 @@ use mathlib.Core.Path.{_≡_, refl, sym, _∙_, subst}
 use Prim.Native.Nat.{ℕ, _+_, _≤_, _<_}
 use native.Mathlib.Omega.{arith}
 use lib.ListN.{length, take, length-map}
-use Rattle.rules.specs.declared.Answer.{Answer}
-use Rattle.rules.specs.declared.Answer.the-variants.{FallsOffTheEnd, DepthConflict}
-use Rattle.rules.specs.declared.Depths.{Depths}
-use Rattle.rules.specs.Depths.{Item, agree}
+use Rattle.answer.specs.declared.Answer.{Answer}
+use Rattle.answer.specs.declared.Answer.the-variants.{FallsOffTheEnd, DepthConflict}
+use Rattle.answer.specs.declared.Depths.{Depths}
+use Rattle.answer.specs.Depths.{Item, agree}
 use Rattle.rules.specs.Edges.{falls, targets, after, jumped, next}
-use Rattle.rules.specs.Machine.{gives, fallTo}
-use Rattle.rules.specs.Rule.{machine, rule, judge}
+use Rattle.machine.specs.Machine.{gives, fallTo}
+use Rattle.demand.specs.Rule.{machine, rule, judge}
 use Rattle.rules.specs.Script.{Script, tagOf}
-use Rattle.rules.specs.Walk.{goes-on, stops, firstBad, push, seen}
-use Rattle.rules.specs.Walk as definition
-use Rattle.rules.proofs.Agree.{agree-true, agree-refl}
-use Rattle.rules.proofs.Lists.{zero≢one}
-use Rattle.rules.proofs.Turn.{is-off, clashes, again, refuses, turn-is}
+use Rattle.machine.specs.Walk.{goes-on, stops, firstBad, push, seen}
+use Rattle.machine.specs.Walk as definition
+use Rattle.machine.proofs.Agree.{agree-true, agree-refl}
+use Rattle.answer.proofs.Apart.{zero≢one}
+use Rattle.machine.proofs.Turn.{is-off, clashes, again, refuses, turn-is}
 use Rattle.ruling.specs.declared.Edges.{Edges}
 use Rattle.ruling.specs.Ruling.{edgesOf}
 use Rattle.words.specs.Stack.{items, putAll, Clear}

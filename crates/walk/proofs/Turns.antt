@@ -16,16 +16,17 @@ use Rattle.listing.specs.Listing.{Start}
 use Rattle.listing.proofs.Starts.{start-wide}
 use Rattle.order.specs.Order.{Rising, below}
 use Rattle.order.proofs.Laws.{below-mono}
-use Rattle.rules.specs.declared.Answer.{Answer}
+use Rattle.answer.specs.declared.Answer.{Answer}
 use Rattle.rules.specs.Edges.{degree, falls, targets, after, jumped, next}
-use Rattle.rules.specs.Machine.{denies, gives, fallTo}
-use Rattle.rules.specs.Rule.{machine, rule, judge}
-use Rattle.rules.specs.Script.{Script, Span, tagOf}
-use Rattle.rules.specs.Walk.{entered, goes-on, stops, firstBad, push, seen}
-use Rattle.rules.specs.Walk as definition
-use Rattle.rules.proofs.Laws.{Passes}
-use Rattle.rules.proofs.Lists.{zero≢one}
-use Rattle.rules.proofs.Turn.{New, is-denied, jumps-badly, enters, refuses, turn-is, seen-named, seen-other}
+use Rattle.machine.specs.Machine.{denies, gives, fallTo}
+use Rattle.demand.specs.Rule.{machine, rule, judge}
+use Rattle.rules.specs.Script.{Script, tagOf}
+use Rattle.demand.specs.Span.{Span}
+use Rattle.machine.specs.Walk.{entered, goes-on, stops, firstBad, push, seen}
+use Rattle.machine.specs.Walk as definition
+use Rattle.machine.proofs.Laws.{Passes}
+use Rattle.answer.proofs.Apart.{zero≢one}
+use Rattle.machine.proofs.Turn.{New, is-denied, jumps-badly, enters, refuses, turn-is, seen-named, seen-other}
 use Rattle.words.specs.Seen.{seenAt, noteAt}
 use Rattle.words.specs.Stack.{items}
 use Rattle.words.proofs.Notes.{length-note}

@@ -6,9 +6,10 @@ use Prim.Native.Nat.{ℕ, _+_, _*_}
 use Rattle.code.specs.Layout.{among}
 use Rattle.opening.specs.Records.{keys}
 use Rattle.order.specs.Order.{below}
-use Rattle.rules.specs.Edges.{T}
-use Rattle.rules.specs.Script.{Script, Span}
-use Rattle.rules.specs.Walk.{Store}
+use Rattle.demand.specs.Span.{T}
+use Rattle.rules.specs.Script.{Script}
+use Rattle.demand.specs.Span.{Span}
+use Rattle.machine.specs.Walk.{Store}
 use Rattle.words.specs.Seen.{seenAt, noteAt}
 
 module _ (S : Script) (span : Span) where

@@ -8,19 +8,20 @@ use Prim.Native.Nat.{ℕ, _+_, _*_, _^_, _≤_, _<_, max}
 use lib.Dec.{ltb, eqb}
 use lib.ListN.{length, getD, set, take, drop, replicate}
 use Rattle.order.specs.Order.{Rising, below}
-use Rattle.rules.specs.declared.Answer.{Answer}
-use Rattle.rules.specs.declared.Answer.the-variants.{StackExceedsDeclared}
-use Rattle.rules.specs.declared.Depths.{Depths}
-use Rattle.rules.specs.Chunk.{BeforeWalk}
-use Rattle.rules.specs.Depths.{Item, zeros}
-use Rattle.rules.specs.Edges.{T}
-use Rattle.rules.specs.Rule.{machine}
-use Rattle.rules.specs.Script.{Script, Span}
-use Rattle.rules.specs.Walk.{Book, goes-on, stops, unfinished, seen, turn, walk}
-use Rattle.rules.specs.Walk as definition
+use Rattle.answer.specs.declared.Answer.{Answer}
+use Rattle.answer.specs.declared.Answer.the-variants.{StackExceedsDeclared}
+use Rattle.answer.specs.declared.Depths.{Depths}
+use Rattle.demand.specs.Chunk.{BeforeWalk}
+use Rattle.answer.specs.Depths.{Item, zeros}
+use Rattle.demand.specs.Span.{T}
+use Rattle.demand.specs.Rule.{machine}
+use Rattle.rules.specs.Script.{Script}
+use Rattle.demand.specs.Span.{Span}
+use Rattle.machine.specs.Walk.{Book, goes-on, stops, unfinished, seen, turn, walk}
+use Rattle.machine.specs.Walk as definition
 use Rattle.ruling.specs.declared.Edges.{Edges}
-use Rattle.rules.specs.declared.Outcome.{Outcome}
-use Rattle.rules.specs.Answer.{told}
+use Rattle.answer.specs.declared.Outcome.{Outcome}
+use Rattle.answer.specs.Answer.{told}
 use Rattle.words.specs.Seen.{noteAt}
 use Rattle.words.specs.Stack.{items, putAll, Clear}
 use Rattle.walk.specs.declared.Counts.{Counts}

@@ -6,9 +6,9 @@ ghost use Rattle.order.specs.Order.{Rising};
 ghost use Rattle.walk.specs.Units.{firstHand, Abandoned, Closed};
 use crate::Hand;
 use opening::Room;
-use rules::Answer;
-use rules::Depths;
-use rules::Outcome;
+use answer::Answer;
+use answer::Depths;
+use answer::Outcome;
 
 // The item that the walk starts with: the entry, with zeros.
 pub fn first_item(room: Room, records: &[u32]) -> Hand

@@ -4,8 +4,8 @@
 pub mod chunk;
 pub mod item;
 
-use rules::Answer;
-use rules::Depths;
+use answer::Answer;
+use answer::Depths;
 
 // The item in hand, and what one item hands to the next: its place and the depths there; how many keys are below the place;
 // how many items wait in work; the instructions entered, the items taken, and the largest number of operands.

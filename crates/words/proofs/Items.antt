@@ -8,8 +8,8 @@ use native.Mathlib.Omega.{arith}
 use native.Mathlib.Decide.{decLt}
 use lib.ListN.{length, getD}
 use lib.Seq.{length-sets}
-use Rattle.rules.specs.Depths.{Item, zeros}
-use Rattle.rules.specs.Walk.{push}
+use Rattle.answer.specs.Depths.{Item, zeros}
+use Rattle.machine.specs.Walk.{push}
 use Rattle.words.specs.Stack.{itemAt, items, wordsOf, put, putAll, cleared, Clear}
 use Rattle.words.proofs.Runs.{run-below, run-above, run-there}
 

@@ -7,7 +7,7 @@ use native.Mathlib.Omega.{arith}
 use borrow.Author.Tests.{ne-eqb, eq-eqb}
 use lib.ListN.{length, getD}
 use lib.Seq.{length-sets}
-use Rattle.rules.specs.declared.Depths.{Depths}
+use Rattle.answer.specs.declared.Depths.{Depths}
 use Rattle.words.specs.Seen.{seenAt, noteAt}
 use Rattle.words.proofs.Runs.{run-below, run-above, run-there}
 

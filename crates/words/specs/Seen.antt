@@ -8,7 +8,7 @@ use Prim.Native.Nat.{ℕ, _+_, _-_}
 use lib.Dec.{eqb}
 use lib.ListN.{getD}
 use lib.Seq.{sets}
-use Rattle.rules.specs.declared.Depths.{Depths}
+use Rattle.answer.specs.declared.Depths.{Depths}
 use Rattle.words.specs.declared.seen.Seen.{Seen}
 use Rattle.words.specs.declared.seen.Seen.the-variants.{Never, With}
 

@@ -5,7 +5,7 @@ use mathlib.Core.Path.{_≡_}
 use Prim.Native.Nat.{ℕ, zero, suc, _+_, _*_, _≤_}
 use lib.ListN.{getD}
 use lib.Seq.{sets}
-use Rattle.rules.specs.Depths.{Item, zeros}
+use Rattle.answer.specs.Depths.{Item, zeros}
 
 -- the item of this number, counted from the bottom
 unfoldable pub itemAt : List ℕ → ℕ → Item

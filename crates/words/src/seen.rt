@@ -3,9 +3,9 @@
 ghost use mathlib.Core.Path.{_≡_};
 ghost use Prim.Native.Nat.{_+_, _^_, _≤_, _<_};
 ghost use lib.ListN.{length};
-ghost use Rattle.rules.specs.Depths.{agree};
+ghost use Rattle.answer.specs.Depths.{agree};
 ghost use Rattle.words.specs.Seen.{told, seenAt, noteAt};
-use rules::Depths;
+use answer::Depths;
 
 // Whether a place was seen, and with which depths.
 pub enum Seen {

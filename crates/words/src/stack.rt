@@ -3,7 +3,7 @@ ghost use mathlib.Core.Path.{_≡_};
 ghost use Prim.Native.Nat.{_+_, _*_, _≤_};
 ghost use lib.ListN.{length};
 ghost use Rattle.words.specs.Stack.{itemAt, put};
-use rules::Depths;
+use answer::Depths;
 
 // A place, and the depths there.
 pub struct Waiting {

@@ -2,7 +2,7 @@
 use mathlib.Core.Path.{refl, sym, ap, _∙_}
 use native.Mathlib.Omega.{arith}
 use borrow.Author.Needs.{needs}
-use Rattle.rules.specs.Answer.{told}
+use Rattle.answer.specs.Answer.{told}
 use Rattle.before.specs.Before.{beforeChunks}
 use Rattle.before.proofs.Held.{untouched, touched}
 use Rattle.before.proofs.Order.{opened, sound}

@@ -3,7 +3,7 @@ use Prim.Native.Nat.{_-_}
 use native.Mathlib.Omega.{arith}
 use borrow.Author.Needs.{needs}
 use lib.ListN.{length}
-use Rattle.rules.specs.Answer.{told}
+use Rattle.answer.specs.Answer.{told}
 use Rattle.before.proofs.Constants.{Granted, none-yet, one-more, lacks, all-granted}
 use Rattle.before.proofs.check_constants.Statement.{statement}
 use Rattle.before.proofs.check_constants.Tie as tie

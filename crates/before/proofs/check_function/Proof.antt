@@ -1,7 +1,7 @@
 -- `before::check_function` meets its contract: there are no functions, or their right is asked for.
 use mathlib.Core.Path.{_∙_}
 use borrow.Author.Needs.{needs}
-use Rattle.rules.specs.Answer.{told}
+use Rattle.answer.specs.Answer.{told}
 use Rattle.before.proofs.Tests.{no-functions, some-functions}
 use Rattle.before.proofs.check_function.Statement.{statement}
 use Rattle.before.proofs.check_function.Tie as tie

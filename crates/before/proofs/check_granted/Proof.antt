@@ -1,7 +1,7 @@
 -- `before::check_granted` meets its contract: nothing lacks, or something does.
 use mathlib.Core.Path.{sym, _∙_}
 use borrow.Author.Needs.{needs}
-use Rattle.rules.specs.Answer.{told}
+use Rattle.answer.specs.Answer.{told}
 use Rattle.before.proofs.Tests.{rights-granted, rights-lack}
 use Rattle.before.proofs.check_granted.Statement.{statement}
 use Rattle.before.proofs.check_granted.Tie as tie

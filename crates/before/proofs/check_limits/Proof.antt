@@ -2,7 +2,7 @@
 use mathlib.Core.Path.{sym, ap, _∙_}
 use borrow.Author.Needs.{needs}
 use Rattle.pools.specs.Sizes.{numbered}
-use Rattle.rules.specs.Answer.{told}
+use Rattle.answer.specs.Answer.{told}
 use Rattle.before.proofs.Tests.{limits-kept, limit-exceeded}
 use Rattle.before.proofs.check_limits.Statement.{statement}
 use Rattle.before.proofs.check_limits.Tie as tie

@@ -1,5 +1,5 @@
 -- `before::check_room` meets its contract: an arm for each way of the comparison.
-use Rattle.rules.specs.Answer.{told}
+use Rattle.answer.specs.Answer.{told}
 use Rattle.before.proofs.Tests.{room-lacks, room-lent}
 use Rattle.before.proofs.check_room.Statement.{statement}
 use Rattle.before.proofs.check_room.Tie as tie

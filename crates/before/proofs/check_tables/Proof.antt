@@ -2,7 +2,7 @@
 use mathlib.Core.Path.{sym, ap, _∙_}
 use borrow.Author.Needs.{needs}
 use Rattle.pools.specs.Tables.{numbered}
-use Rattle.rules.specs.Answer.{told}
+use Rattle.answer.specs.Answer.{told}
 use Rattle.before.proofs.Tests.{tables-good, table-bad}
 use Rattle.before.proofs.check_tables.Statement.{statement}
 use Rattle.before.proofs.check_tables.Tie as tie

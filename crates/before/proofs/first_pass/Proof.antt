@@ -4,7 +4,7 @@ use native.Mathlib.Omega.{arith}
 use borrow.Author.Needs.{needs}
 use lib.ListN.{length}
 use Rattle.indices.specs.Indices.{tables}
-use Rattle.rules.specs.Answer.{told}
+use Rattle.answer.specs.Answer.{told}
 use Rattle.before.proofs.Pass.{Going, going-first, going-next, all-passed, refused-here}
 use Rattle.before.proofs.first_pass.Statement.{statement}
 use Rattle.before.proofs.first_pass.Tie as tie

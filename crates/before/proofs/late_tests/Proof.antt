@@ -1,7 +1,7 @@
 -- `before::late_tests` meets its contract: a test that passes leaves the answer to the next, and a refusal leaves no mark.
 use mathlib.Core.Path.{sym, ap, _∙_}
 use borrow.Author.Needs.{needs}
-use Rattle.rules.specs.Answer.{told}
+use Rattle.answer.specs.Answer.{told}
 use Rattle.before.specs.Before.{lateTests}
 use Rattle.before.proofs.Held.{refused-by, of-the-lent, as-held}
 use Rattle.before.proofs.Tests.{goes-on, stops, last}

@@ -1,7 +1,7 @@
 -- `before::refuse` meets its contract: all marks are cleared.
 use mathlib.Core.Path.{refl}
 use borrow.Author.Needs.{needs}
-use Rattle.rules.specs.Answer.{told}
+use Rattle.answer.specs.Answer.{told}
 use Rattle.before.proofs.refuse.Statement.{statement}
 use Rattle.before.proofs.refuse.Tie as tie
 

@@ -58,10 +58,11 @@ use denote.Triple.Table.{entered, cited}
 use denote.Triple.Walked.{says, Stays, stay-none, stay-none-slice, stay-slice, walkOf, goes-none, goes-none-slice, goes-slice, Walks, ends-at, walked, walk-meets}
 use denote.Exit.{yes}
 use Rattle.before.specs.Input.{Input}
-use Rattle.rules.specs.declared.verdict.Verdict.{Verdict}
-use Rattle.rules.specs.Script.{Span, script}
-use Rattle.rules.proofs.verdict.Verdict as D
-use Rattle.rules.proofs.verdict.Verdict.Laws as D′
+use Rattle.answer.specs.declared.verdict.Verdict.{Verdict}
+use Rattle.demand.specs.Span.{Span}
+use Rattle.rules.specs.Script.{script}
+use Rattle.answer.proofs.verdict.Verdict as D
+use Rattle.answer.proofs.verdict.Verdict.Laws as D′
 use Rattle.verify.specs.declared.stages.State.{State}
 use Rattle.verify.specs.Call.{Calls as CallsSo}
 use Rattle.verify.specs.Call as lent

@@ -1,6 +1,6 @@
 -- `opening::check_room` meets its contract.
 use borrow.Author.Needs.{needs}
-use Rattle.rules.specs.Answer.{told}
+use Rattle.answer.specs.Answer.{told}
 use Rattle.opening.proofs.Tests.{no-records, no-work, both-fit}
 use Rattle.opening.proofs.check_room.Statement.{statement}
 use Rattle.opening.proofs.check_room.Tie as tie

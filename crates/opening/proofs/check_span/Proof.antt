@@ -1,6 +1,6 @@
 -- `opening::check_span` meets its contract.
 use borrow.Author.Needs.{needs}
-use Rattle.rules.specs.Answer.{told}
+use Rattle.answer.specs.Answer.{told}
 use Rattle.opening.proofs.Tests.{out-of-order, past-code, at-start, at-end, at-neither}
 use Rattle.opening.proofs.check_span.Statement.{statement}
 use Rattle.opening.proofs.check_span.Tie as tie

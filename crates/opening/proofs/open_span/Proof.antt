@@ -4,7 +4,8 @@ use mathlib.Core.Option.{none}
 use mathlib.Core.Path.{_≡_}
 use borrow.Author.Needs.{needs}
 use denote.Ref.{now}
-use Rattle.rules.specs.Script.{Script, Span}
+use Rattle.rules.specs.Script.{Script}
+use Rattle.demand.specs.Span.{Span}
 use Rattle.rules.specs.Script.{script}
 use Rattle.opening.specs.Ready.{spanOf}
 use Rattle.opening.specs.Tests.{spanTest}

@@ -6,7 +6,7 @@ use native.Mathlib.Omega.{arith}
 use borrow.Author.Needs.{needs}
 use lib.ListN.{length}
 use Rattle.rules.specs.Edges.{targetsOf}
-use Rattle.rules.specs.Answer.{told}
+use Rattle.answer.specs.Answer.{told}
 use Rattle.rules.specs.Script.{script}
 use Rattle.ruling.proofs.Jumps.{Good, none-yet, one-more, refused, all-good}
 use Rattle.ruling.proofs.check_jumps.Statement.{statement}

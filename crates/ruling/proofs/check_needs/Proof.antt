@@ -1,6 +1,6 @@
 -- `ruling::check_needs` meets its contract: a way out for each test.
 use borrow.Author.Needs.{needs}
-use Rattle.rules.specs.Answer.{told}
+use Rattle.answer.specs.Answer.{told}
 use Rattle.ruling.proofs.Tests.{no-rights, no-operands, no-iterator, no-handler, all-there}
 use Rattle.ruling.proofs.check_needs.Statement.{statement}
 use Rattle.ruling.proofs.check_needs.Tie as tie

@@ -1,6 +1,6 @@
 -- `ruling::go` meets its contract: a way out for each answer of its tests.
 use borrow.Author.Needs.{needs}
-use Rattle.rules.specs.Answer.{told}
+use Rattle.answer.specs.Answer.{told}
 use Rattle.ruling.proofs.Jump.{out-of-range, at-no-start, at-start}
 use Rattle.ruling.proofs.go.Statement.{statement}
 use Rattle.ruling.proofs.go.Tie as tie

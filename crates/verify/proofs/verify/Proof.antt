@@ -5,12 +5,12 @@ use borrow.Author.Needs.{needs}
 use denote.Ref.{now}
 use lib.ListN.{length}
 use Rattle.before.specs.Input.{Input}
-use Rattle.rules.specs.Script.{Span}
+use Rattle.demand.specs.Span.{Span}
 use Rattle.verify.specs.Call.{Memory}
-use Rattle.verify.specs.Judging.{spansOf}
+use Rattle.judging.specs.Spans.{spansOf}
 use Rattle.verify.specs.Stages.{Begins}
 use Rattle.verify.proofs.Between.{first-ended, first-goes, all-ask, all-fit, all-judged}
-use Rattle.verify.proofs.Chain.{span-count}
+use Rattle.judging.proofs.Chain.{span-count}
 use Rattle.verify.proofs.verify.Statement.{statement}
 use Rattle.verify.proofs.verify.Tie as tie
 

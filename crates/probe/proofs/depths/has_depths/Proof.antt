@@ -3,7 +3,7 @@ use mathlib.Core.Path.{_≡_}
 use Prim.Native.Nat.{_≤_}
 use native.Mathlib.Omega.{arith}
 use borrow.Author.Needs.{needs}
-use Rattle.rules.specs.Paths.{iteratorsNeeded, handlersNeeded}
+use Rattle.rules.specs.Needs.{iteratorsNeeded, handlersNeeded}
 use Rattle.probe.proofs.Held.{few-iterators, few-handlers, most-iterators, by-handlers}
 use Rattle.probe.proofs.depths.has_depths.Statement.{statement}
 use Rattle.probe.proofs.depths.has_depths.Tie as tie

@@ -5,7 +5,7 @@ use borrow.Author.Needs.{needs}
 use borrow.Author.Tests.{not-true, not-false}
 use Rattle.probe.specs.Depths.{holds, fits}
 use Rattle.probe.proofs.Held.{held, enough, untold, told}
-use Rattle.probe.proofs.Ready.{not-first, not-second, each}
+use Rattle.guards.proofs.Ready.{not-first, not-second, each}
 use Rattle.probe.proofs.depths.probe_after.Statement.{statement}
 use Rattle.probe.proofs.depths.probe_after.Tie as tie
 

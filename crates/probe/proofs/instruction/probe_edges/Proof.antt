@@ -3,9 +3,9 @@ use mathlib.Core.Bool.{true}
 use mathlib.Core.Path.{_≡_, _∙_, sym}
 use borrow.Author.Needs.{needs}
 use borrow.Author.Tests.{not-true, not-false}
-use Rattle.probe.specs.Instruction.{isThere}
+use Rattle.guards.specs.Guards.{isThere}
 use Rattle.probe.proofs.Across.{untold, told-if}
-use Rattle.probe.proofs.Ready.{ready}
+use Rattle.guards.proofs.Ready.{ready}
 use Rattle.probe.proofs.instruction.probe_edges.Statement.{statement}
 use Rattle.probe.proofs.instruction.probe_edges.Tie as tie
 

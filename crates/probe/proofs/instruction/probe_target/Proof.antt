@@ -4,9 +4,9 @@ use mathlib.Core.Path.{_≡_, _∙_, sym}
 use native.Mathlib.Omega.{arith}
 use borrow.Author.Needs.{needs}
 use borrow.Author.Tests.{not-true, not-false}
-use Rattle.probe.specs.Instruction.{isThere}
+use Rattle.guards.specs.Guards.{isThere}
 use Rattle.probe.proofs.Across.{untold, past-count, below-count}
-use Rattle.probe.proofs.Ready.{ready, not-first}
+use Rattle.guards.proofs.Ready.{ready, not-first}
 use Rattle.probe.proofs.instruction.probe_target.Statement.{statement}
 use Rattle.probe.proofs.instruction.probe_target.Tie as tie
 

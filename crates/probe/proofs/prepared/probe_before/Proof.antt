@@ -1,7 +1,7 @@
 -- `probe::prepared::probe_before` meets its contract: the outcome's answer in numbers, and the marks as they were left.
 use mathlib.Core.Path.{_∙_, ap, sym}
 use borrow.Author.Needs.{needs}
-use Rattle.rules.specs.Answer.{told}
+use Rattle.answer.specs.Answer.{told}
 use Rattle.before.specs.Before.{verdictOf}
 use Rattle.probe.proofs.prepared.probe_before.Statement.{statement}
 use Rattle.probe.proofs.prepared.probe_before.Tie as tie

@@ -3,7 +3,7 @@ use mathlib.Core.Path.{ap}
 use native.Mathlib.Omega.{arith}
 use borrow.Author.Needs.{needs}
 use denote.Ref.{now}
-use Rattle.rules.specs.declared.verdict.Verdict.{Verdict}
+use Rattle.answer.specs.declared.verdict.Verdict.{Verdict}
 use Rattle.verify.proofs.Between.{begins-untouched, begins-zeroed, begins-going, marks-fit}
 use Rattle.verify.proofs.stages.begin.Statement.{statement}
 use Rattle.verify.proofs.stages.begin.Tie as tie

@@ -1,7 +1,7 @@
 -- `verify::stages::clear_both` meets its contract: as many words as there are.
 use borrow.Author.Needs.{needs}
 use denote.Ref.{now}
-use Rattle.verify.proofs.Walking.{all-cleared}
+use Rattle.judging.proofs.Walking.{all-cleared}
 use Rattle.verify.proofs.stages.clear_both.Statement.{statement}
 use Rattle.verify.proofs.stages.clear_both.Tie as tie
 

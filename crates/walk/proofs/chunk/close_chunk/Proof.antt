@@ -2,7 +2,7 @@
 use mathlib.Core.Path.{refl}
 use borrow.Author.Needs.{needs}
 use borrow.Author.Tests.{lt-ltb, le-ltb}
-use Rattle.rules.specs.Answer.{told}
+use Rattle.answer.specs.Answer.{told}
 use Rattle.walk.specs.Units.{heightTest}
 use Rattle.walk.proofs.chunk.close_chunk.Statement.{statement}
 use Rattle.walk.proofs.chunk.close_chunk.Tie as tie

@@ -11,7 +11,7 @@ use Rattle.ruling.specs.declared.Ruling.the-variants.{Gives}
 use Rattle.rules.specs.Script.{script}
 use Rattle.ruling.specs.Ruling.{edgesOf, ruled}
 use Rattle.walk.specs.declared.Hand.{Hand}
-use Rattle.rules.specs.Answer.{told}
+use Rattle.answer.specs.Answer.{told}
 use Rattle.rules.proofs.Targets.{switch-entry-of}
 use Rattle.ruling.proofs.Laws.{denied, given-edges, given-rule}
 use Rattle.walk.specs.Units.{Leaves, spanOf}

@@ -5,9 +5,9 @@ use borrow.Author.Needs.{needs}
 use denote.Ref.{now}
 use lib.ListN.{length}
 use Prim.Native.Nat.{_^_, _<_}
-use Rattle.rules.specs.Rule.{machine}
+use Rattle.demand.specs.Rule.{machine}
 use Rattle.rules.specs.Script.{Script}
-use Rattle.rules.specs.Walk.{seen}
+use Rattle.machine.specs.Walk.{seen}
 use Rattle.rules.specs.Script.{script}
 use Rattle.words.specs.Seen.{told}
 use Rattle.walk.specs.declared.Hand.{Hand}

@@ -1,6 +1,6 @@
 -- `words::seen::agree` meets its contract: depth by depth.
 use borrow.Author.Tests.{eq-eqb, ne-eqb}
-use Rattle.rules.specs.Depths.{agree}
+use Rattle.answer.specs.Depths.{agree}
 use Rattle.words.proofs.seen.agree.Statement.{statement}
 use Rattle.words.proofs.seen.agree.Tie as tie
 

@@ -1,0 +1,2 @@
+-- The laws that proofs cite.
+pub mod Apart

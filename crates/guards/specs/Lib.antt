@@ -1,0 +1,2 @@
+-- The definitions that contracts and laws cite.
+pub mod Guards

@@ -1,0 +1,3 @@
+-- The laws that proofs cite.
+pub mod Chain
+pub mod Walking

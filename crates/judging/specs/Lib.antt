@@ -1,0 +1,3 @@
+-- The definitions that contracts and laws cite.
+pub mod Spans
+pub mod Judging

@@ -1,0 +1,20 @@
+-- The theorems about the walk over a machine, and what they stand on.
+pub mod Lists
+pub mod Agree
+pub mod Laws
+pub mod Paths
+pub mod Tables
+pub mod Waiting
+pub mod Turn
+pub mod Run
+pub mod Slices
+pub mod Once
+pub mod Closed
+pub mod Counts
+pub mod Sound
+pub mod Ends
+pub mod Exactly
+pub mod Measures
+pub mod Refusals
+pub mod Stores
+pub mod Wider

@@ -1,0 +1,4 @@
+-- The definitions that contracts and laws cite.
+pub mod Lists
+pub mod Machine
+pub mod Walk
