@@ -19,24 +19,27 @@ unfoldable pub toldIf : Bool → ℕ → Told
 toldIf passes value = cond passes (found value) (without 1)
 
 module _ (code : List ℕ) (at : ℕ) (names chains steps switches cases ranges : List ℕ) where
+  abbrev there : Bool
+  there = isThere code at names chains steps switches cases ranges
+
   abbrev targets : List ℕ
   targets = targetsOf code switches cases ranges at
 
   abbrev pub requiredTold : Told
-  requiredTold = toldIf isThere (required code names chains steps at)
+  requiredTold = toldIf there (required code names chains steps at)
 
   abbrev pub targetsTold : Told
-  targetsTold = toldIf isThere (length targets)
+  targetsTold = toldIf there (length targets)
 
   abbrev pub edgesTold : Told
-  edgesTold = toldIf isThere (length targets + cond (falls (tagAt code at)) 1 0)
+  edgesTold = toldIf there (length targets + cond (falls (tagAt code at)) 1 0)
 
   -- the target of this number, where there is one
   abbrev pub targetTold : ℕ → Told
-  targetTold k = toldIf (isThere && ltb k (length targets)) (getD targets k 0)
+  targetTold k = toldIf (there && ltb k (length targets)) (getD targets k 0)
 
   pub record EffectSame (r : EffectTold) : Type 0 where
-    pub number : r .number ≡ cond isThere 0 1
-    pub needs : r .needs ≡ cond isThere (effects.needs code chains at) 0
-    pub pops : r .pops ≡ cond isThere (effects.pops code chains at) 0
-    pub pushes : r .pushes ≡ cond isThere (effects.pushes code chains at) 0
+    pub number : r .number ≡ cond there 0 1
+    pub needs : r .needs ≡ cond there (effects.needs code chains at) 0
+    pub pops : r .pops ≡ cond there (effects.pops code chains at) 0
+    pub pushes : r .pushes ≡ cond there (effects.pushes code chains at) 0
