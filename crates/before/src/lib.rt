@@ -23,6 +23,7 @@ use pools::limits::Sizes;
 use pools::tables::Tables;
 use answer::Answer;
 use answer::Outcome;
+use rules::caps;
 
 // What one instruction of the first pass comes to: it is passed, and this is the offset after it; the code has ended; or a
 // refusal.
@@ -36,9 +37,6 @@ pub enum Turn {
 const MARKS: u64 = 1;
 
 const HEIGHTS: u64 = 2;
-
-// The right to have functions, the lowest of the rights bits.
-const FUNCTION: u32 = 1;
 
 // Kind 1: is there more of anything than its limit allows?
 pub fn check_limits(sizes: Sizes) -> Outcome
@@ -119,7 +117,7 @@ pub fn check_function(functions: u32, rights: u32) -> Outcome
     if functions == 0 {
         Outcome::Passed
     } else {
-        check_granted(FUNCTION, rights)
+        check_granted(caps::FUNCTION, rights)
     }
 }
 

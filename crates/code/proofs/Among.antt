@@ -8,8 +8,12 @@ use borrow.Author.Tests.{eqb-true, eq-eqb}
 use lib.Dec.{eqb}
 use Rattle.code.specs.Layout.{among}
 
-false-is : {A : Type 0} → false ≡ true → A
+pub false-is : {A : Type 0} → false ≡ true → A
 false-is e = let z : _≡_ {A = ℕ} 0 1 = cc in absurd (omega arith)
+
+pub or-true : (a : Bool) → a || true ≡ true
+or-true true = refl
+or-true false = refl
 
 pub among-member : (x : ℕ) (xs : List ℕ) → among x xs ≡ true → List·Memᴰ x xs
 unfolding among

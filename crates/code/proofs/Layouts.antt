@@ -1,41 +1,44 @@
--- Document 01's lists of tags against the definitions, by computed tests: the names run upward from 0x01 in the document's
--- order and have the widths of their lists, and each tag's fields fill its width.
+-- Document 01's lists of tags against the definitions, by computed tests: the names run upward from 0x01 in the
+-- document's order and have the widths of their lists; each row of the layouts holds of each of its tags, and a tag's
+-- fields fill its width.
 use mathlib.Core.Bool.{Bool, true, false, cond}
-use mathlib.Core.List.{List, [], _∷_, _++_, map}
+use mathlib.Core.List.{List, [], _∷_, _++_, List·Memᴰ}
 use mathlib.Core.Path.{_≡_, refl, sym}
 use Prim.Native.Nat.{ℕ, zero, suc, _+_, _≤_, _<_}
 use native.Mathlib.Omega.{arith}
 use borrow.Author.Tests.{ne-eqb, lt-leb, leb-true, leb-false}
 use lib.Dec.{eqb, leb, eqb→eq}
 use lib.ListN.{replicate}
-use Rattle.code.specs.Layout.{Field, size, layout, among}
-use Rattle.code.specs.Tags.{UNIT, FALSE, TRUE, POP, TICK, CHECKPOINT, RETURN, THROW, ITER-INIT, ITER-DROP, INTERPOLATE-START, INTERPOLATE-APPEND, INTERPOLATE-END, POP-HANDLER, IS-SHARED, MAKE-FN-PTR, LOAD-THIS, LOAD-THIS-SHARED, REQUIRE-THIS, ASSIGN-THIS, ROTATE, CURRY, CALL-FN-PTR, CALL-FN-PTR-CAPTURE, CALL-FN-PTR-METHOD, CALL-FN-PTR-ON-THIS, UNWIND-TO, STATEMENT, SHARE, SHARE-NAMED, LOAD-SHARED, LOAD-SHARED-NAMED, STORE-SHARED, ASSIGN-THIS-OP, MAKE-CLOSURE, LOAD-CONST, LOAD-LOCAL, LOAD-NAMED, STORE-LOCAL, STORE-CONST, DECLARE-LOCAL, DECLARE-CONST, DECLARE-GLOBAL-CONST, CHAIN, MAKE-ARRAY, MAKE-MAP, CHECK-ARRAY-SIZE, CHECK-MAP-SIZE, SWITCH, CUSTOM-SYNTAX, ASSIGN-NAMED, CALL, CALL-THIS-REF, CALL-FN-PTR-ON-LOCAL, CALL-FN-PTR-ON-NAMED, JUMP, JUMP-IF-TRUE, JUMP-IF-FALSE, SKIP-IF-NOT-UNIT, ITER-NEXT, PUSH-HANDLER, EXPORT-LOCAL, EXPORT-NAMED, ASSIGN-LOCAL, ASSIGN-NAMED-OP, CALL-OP, CALL-LOCAL-REF, CALL-NAMED-REF, ITER-NEXT-INDEXED, PUSH-HANDLER-VAR, ASSIGN-LOCAL-OP, IMPORT}
+use Rattle.code.specs.ByTag.{Row, among, lookUp}
+use Rattle.code.specs.Layout.{Field, size, layouts, layout}
+use Rattle.code.specs.Tags.{widths}
 use Rattle.code.specs.Width.{widthOf}
+use Rattle.code.proofs.ByTag.{tagsOf, once, row-holds}
 use Rattle.code.proofs.Table.{each}
-
--- the names in the document's order, a line or two for each width; IMPORT stands apart
-abbrev tags : List ℕ
-tags =
-    UNIT ∷ FALSE ∷ TRUE ∷ POP ∷ TICK ∷ CHECKPOINT ∷ RETURN ∷ THROW ∷ ITER-INIT ∷ ITER-DROP ∷ INTERPOLATE-START ∷ INTERPOLATE-APPEND ∷ INTERPOLATE-END ∷ POP-HANDLER ∷ IS-SHARED ∷ MAKE-FN-PTR ∷ LOAD-THIS ∷ LOAD-THIS-SHARED ∷ REQUIRE-THIS ∷ ASSIGN-THIS ∷
-    ROTATE ∷ CURRY ∷ CALL-FN-PTR ∷ CALL-FN-PTR-CAPTURE ∷ CALL-FN-PTR-METHOD ∷ CALL-FN-PTR-ON-THIS ∷
-    UNWIND-TO ∷ STATEMENT ∷ SHARE ∷ SHARE-NAMED ∷ LOAD-SHARED ∷ LOAD-SHARED-NAMED ∷ STORE-SHARED ∷ ASSIGN-THIS-OP ∷ MAKE-CLOSURE ∷ LOAD-CONST ∷ LOAD-LOCAL ∷ LOAD-NAMED ∷ STORE-LOCAL ∷ STORE-CONST ∷ DECLARE-LOCAL ∷ DECLARE-CONST ∷ DECLARE-GLOBAL-CONST ∷ CHAIN ∷ MAKE-ARRAY ∷ MAKE-MAP ∷ CHECK-ARRAY-SIZE ∷ CHECK-MAP-SIZE ∷ SWITCH ∷ CUSTOM-SYNTAX ∷ ASSIGN-NAMED ∷
-    CALL ∷ CALL-THIS-REF ∷ CALL-FN-PTR-ON-LOCAL ∷ CALL-FN-PTR-ON-NAMED ∷
-    JUMP ∷ JUMP-IF-TRUE ∷ JUMP-IF-FALSE ∷ SKIP-IF-NOT-UNIT ∷ ITER-NEXT ∷ PUSH-HANDLER ∷ EXPORT-LOCAL ∷ EXPORT-NAMED ∷ ASSIGN-LOCAL ∷ ASSIGN-NAMED-OP ∷
-    CALL-OP ∷ CALL-LOCAL-REF ∷ CALL-NAMED-REF ∷
-    ITER-NEXT-INDEXED ∷ PUSH-HANDLER-VAR ∷ ASSIGN-LOCAL-OP ∷ []
 
 abbrev upward : ℕ → ℕ → List ℕ
 upward zero from = []
 upward (suc n) from = from ∷ upward n (suc from)
 
-pub in-order : tags ≡ upward 71 0x01
+-- from 0x01 upward in the order of the lists; IMPORT, the last of its list, stands apart
+pub in-order : tagsOf widths ≡ upward 51 0x01 ++ (0x4f ∷ []) ++ upward 20 0x34
+unfolding tagsOf
 in-order = refl
 
-pub widths-of-names :
-    map widthOf (tags ++ (IMPORT ∷ []))
-    ≡ replicate 20 1 ++ replicate 6 2 ++ replicate 25 3 ++ replicate 4 4 ++ replicate 10 5 ++ replicate 3 6 ++ replicate 3 7 ++ (3 ∷ [])
-unfolding widthOf
-widths-of-names = refl
+isWidth : ℕ → ℕ → Bool
+unfolding widthOf lookUp among
+isWidth tag x = eqb (widthOf tag) (lookUp widths 0 tag)
+
+-- the runs of widths are the lists of names, and every byte not named has width 0
+pub widths-of-names : (tag : ℕ) → tag < 256 → widthOf tag ≡ lookUp widths 0 tag
+unfolding isWidth
+widths-of-names tag h = eqb→eq (widthOf tag) (lookUp widths 0 tag) (each isWidth (replicate 256 0) tt tag h)
+
+-- no tag is in two rows of the layouts, so that each row holds of its tags
+pub layout-row : {row : Row (List Field)} → List·Memᴰ row layouts → (tag : ℕ) → among tag (row .tags) ≡ true
+    → layout tag ≡ row .says
+unfolding layout once tagsOf
+layout-row = row-holds layouts [] tt
 
 -- how many bytes fields take
 unfoldable pub sizes : List Field → ℕ
@@ -43,7 +46,7 @@ sizes [] = 0
 sizes (field ∷ fields) = size field + sizes fields
 
 fills : ℕ → ℕ → Bool
-unfolding widthOf layout among sizes
+unfolding widthOf layout sizes
 fills tag x = eqb (widthOf tag) (cond (eqb (widthOf tag) 0) 0 (1 + sizes (layout tag)))
 
 -- a tag's fields fill its width

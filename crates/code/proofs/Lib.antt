@@ -3,6 +3,7 @@ pub mod Entries
 pub mod Widths
 pub mod Little
 pub mod Once
+pub mod ByTag
 pub mod Layouts
 pub mod Among
 pub mod Packed

@@ -1,5 +1,5 @@
--- Tables whose entries are packed into numbers, several to a number, the lowest first: one computed test that each entry is
--- where it is looked for gives the law at each.
+-- Tables whose entries are packed into numbers, several to a number, the lowest first: one computed test that each
+-- entry is where it is looked for gives the law at each.
 use mathlib.Core.Bool.{Bool}
 use mathlib.Core.List.{List}
 use mathlib.Core.Path.{_≡_, sym}

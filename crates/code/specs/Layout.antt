@@ -1,20 +1,22 @@
--- Where an instruction's operands stand: the fields of each tag in byte order, the first at offset 1. Document 01, "Tags":
--- "Index checks are those of `check_indices` in 000, in its order and at its offsets. Jump targets are u32 at offset 1. A
--- count n is the byte at 1 (width 2 and CALL_FN_PTR_ON_*), the byte at 3 (other calls), the u16 at 1 (MAKE_*)". A pool's
--- number is that of kind 6: "constant 1, name, operator, op-assignment, chain, switch, site 7".
-use mathlib.Core.Bool.{Bool, false, _||_, cond}
+-- Where an instruction's operands stand: the fields of each tag in byte order, the first at offset 1. Document 01,
+-- "Tags": "Index checks are those of `check_indices` in 000, in its order and at its offsets. Jump targets are u32 at
+-- offset 1. A count n is the byte at 1 (width 2 and CALL_FN_PTR_ON_*), the byte at 3 (other calls), the u16 at 1
+-- (MAKE_*)". A pool's number is that of kind 6: "constant 1, name, operator, op-assignment, chain, switch, site 7".
 use mathlib.Core.List.{List, [], _∷_, _++_}
 use Prim.Native.Nat.{ℕ, _+_}
-use lib.Dec.{eqb}
 use lib.ListN.{getD}
+use Rattle.code.specs.ByTag.{Row, _for_, lookUp}
 use Rattle.code.specs.Numbers.{little}
-use Rattle.code.specs.Tags.{ROTATE, CURRY, CALL-FN-PTR, CALL-FN-PTR-CAPTURE, CALL-FN-PTR-METHOD, CALL-FN-PTR-ON-THIS, UNWIND-TO, STATEMENT, SHARE, SHARE-NAMED, LOAD-SHARED, LOAD-SHARED-NAMED, ASSIGN-THIS-OP, MAKE-CLOSURE, LOAD-CONST, LOAD-LOCAL, LOAD-NAMED, CHAIN, MAKE-ARRAY, MAKE-MAP, SWITCH, CUSTOM-SYNTAX, ASSIGN-NAMED, IMPORT, CALL, CALL-THIS-REF, CALL-FN-PTR-ON-LOCAL, CALL-FN-PTR-ON-NAMED, JUMP, SKIP-IF-NOT-UNIT, ITER-NEXT, PUSH-HANDLER, EXPORT-LOCAL, EXPORT-NAMED, ASSIGN-LOCAL, ASSIGN-NAMED-OP, CALL-OP, CALL-LOCAL-REF, CALL-NAMED-REF, ITER-NEXT-INDEXED, PUSH-HANDLER-VAR, ASSIGN-LOCAL-OP}
+use Rattle.code.specs.Tags.{ROTATE, CURRY, CALL-FN-PTR, CALL-FN-PTR-CAPTURE, CALL-FN-PTR-METHOD}
+use Rattle.code.specs.Tags.{CALL-FN-PTR-ON-THIS, UNWIND-TO, STATEMENT, SHARE, SHARE-NAMED, LOAD-SHARED}
+use Rattle.code.specs.Tags.{LOAD-SHARED-NAMED, ASSIGN-THIS-OP, MAKE-CLOSURE, LOAD-CONST, LOAD-LOCAL, LOAD-NAMED}
+use Rattle.code.specs.Tags.{CHAIN, MAKE-ARRAY, MAKE-MAP, SWITCH, CUSTOM-SYNTAX, ASSIGN-NAMED, IMPORT}
+use Rattle.code.specs.Tags.{CALL, CALL-THIS-REF, CALL-FN-PTR-ON-LOCAL, CALL-FN-PTR-ON-NAMED}
+use Rattle.code.specs.Tags.{JUMP, SKIP-IF-NOT-UNIT, ITER-NEXT, PUSH-HANDLER, EXPORT-LOCAL, EXPORT-NAMED}
+use Rattle.code.specs.Tags.{ASSIGN-LOCAL, ASSIGN-NAMED-OP, CALL-OP, CALL-LOCAL-REF, CALL-NAMED-REF}
+use Rattle.code.specs.Tags.{ITER-NEXT-INDEXED, PUSH-HANDLER-VAR, ASSIGN-LOCAL-OP}
 use Rattle.code.specs.Tags.{jumpIfs, stores, declares, checks}
-
--- is a tag one of these?
-unfoldable pub among : ℕ → List ℕ → Bool
-among tag [] = false
-among tag (t ∷ ts) = eqb tag t || among tag ts
+unfoldable pub use Rattle.code.specs.ByTag.{among}
 
 -- a jump's target, of four bytes; a count of one byte, or of two; an index into a pool, or a number that nobody checks
 -- here, as a slot or a line, of two
@@ -50,30 +52,43 @@ switches = 6
 abbrev pub sites : ℕ
 sites = 7
 
+abbrev pub layouts : List (Row (List Field))
+layouts =
+    -- the index checks, in their order
+    (index constants ∷ [] for LOAD-CONST ∷ [])
+    ∷ (index names ∷ [] for declares)
+    ∷ (index names ∷ count8 ∷ [] for CALL ∷ CALL-THIS-REF ∷ [])
+    ∷ (index names ∷ count8 ∷ slot ∷ [] for CALL-LOCAL-REF ∷ [])
+    ∷ (index names ∷ count8 ∷ index names ∷ [] for CALL-NAMED-REF ∷ [])
+    ∷ (index names ∷ count8 ∷ index operators ∷ [] for CALL-OP ∷ [])
+    ∷ (count8 ∷ index names ∷ [] for CALL-FN-PTR-ON-NAMED ∷ [])
+    ∷ (index names ∷ [] for LOAD-NAMED ∷ LOAD-SHARED-NAMED ∷ ASSIGN-NAMED ∷ SHARE-NAMED ∷ MAKE-CLOSURE ∷ [])
+    ∷ (slot ∷ index names ∷ [] for ASSIGN-LOCAL ∷ [])
+    ∷ (index names ∷ index opAssignments ∷ [] for ASSIGN-NAMED-OP ∷ [])
+    ∷ (slot ∷ index names ∷ index opAssignments ∷ [] for ASSIGN-LOCAL-OP ∷ [])
+    ∷ (index opAssignments ∷ [] for ASSIGN-THIS-OP ∷ [])
+    ∷ (slot ∷ index names ∷ [] for EXPORT-LOCAL ∷ [])
+    ∷ (index names ∷ index names ∷ [] for EXPORT-NAMED ∷ [])
+    ∷ (index names ∷ [] for IMPORT ∷ [])
+    ∷ (index chains ∷ [] for CHAIN ∷ [])
+    ∷ (index switches ∷ [] for SWITCH ∷ [])
+    ∷ (index sites ∷ [] for CUSTOM-SYNTAX ∷ [])
+    -- the jump targets
+    ∷ (target ∷ [] for JUMP ∷ jumpIfs ++ SKIP-IF-NOT-UNIT ∷ ITER-NEXT ∷ PUSH-HANDLER ∷ [])
+    ∷ (target ∷ slot ∷ [] for ITER-NEXT-INDEXED ∷ PUSH-HANDLER-VAR ∷ [])
+    -- the counts of those that name no index
+    ∷ (count8 ∷ [] for ROTATE ∷ CURRY ∷ CALL-FN-PTR ∷ CALL-FN-PTR-CAPTURE ∷ CALL-FN-PTR-METHOD ∷
+    CALL-FN-PTR-ON-THIS ∷ [])
+    ∷ (count8 ∷ slot ∷ [] for CALL-FN-PTR-ON-LOCAL ∷ [])
+    ∷ (count16 ∷ [] for MAKE-ARRAY ∷ MAKE-MAP ∷ [])
+    -- and those of which nothing is checked here
+    ∷ (slot ∷ [] for UNWIND-TO ∷ STATEMENT ∷ SHARE ∷ LOAD-SHARED ∷ LOAD-LOCAL ∷ stores ++ checks)
+    ∷ []
+
+-- all others have no operands
 unfoldable pub layout : ℕ → List Field
-layout tag =
-    cond (among tag (JUMP ∷ SKIP-IF-NOT-UNIT ∷ ITER-NEXT ∷ PUSH-HANDLER ∷ jumpIfs)) (target ∷ [])
-    (cond (among tag (ITER-NEXT-INDEXED ∷ PUSH-HANDLER-VAR ∷ [])) (target ∷ slot ∷ [])
-    (cond (among tag (ROTATE ∷ CURRY ∷ CALL-FN-PTR ∷ CALL-FN-PTR-CAPTURE ∷ CALL-FN-PTR-METHOD ∷ CALL-FN-PTR-ON-THIS ∷ [])) (count8 ∷ [])
-    (cond (eqb tag CALL-FN-PTR-ON-LOCAL) (count8 ∷ slot ∷ [])
-    (cond (eqb tag CALL-FN-PTR-ON-NAMED) (count8 ∷ index names ∷ [])
-    (cond (among tag (CALL ∷ CALL-THIS-REF ∷ [])) (index names ∷ count8 ∷ [])
-    (cond (eqb tag CALL-LOCAL-REF) (index names ∷ count8 ∷ slot ∷ [])
-    (cond (eqb tag CALL-NAMED-REF) (index names ∷ count8 ∷ index names ∷ [])
-    (cond (eqb tag CALL-OP) (index names ∷ count8 ∷ index operators ∷ [])
-    (cond (among tag (MAKE-ARRAY ∷ MAKE-MAP ∷ [])) (count16 ∷ [])
-    (cond (eqb tag LOAD-CONST) (index constants ∷ [])
-    (cond (among tag (LOAD-NAMED ∷ LOAD-SHARED-NAMED ∷ ASSIGN-NAMED ∷ SHARE-NAMED ∷ MAKE-CLOSURE ∷ IMPORT ∷ declares)) (index names ∷ [])
-    (cond (among tag (ASSIGN-LOCAL ∷ EXPORT-LOCAL ∷ [])) (slot ∷ index names ∷ [])
-    (cond (eqb tag EXPORT-NAMED) (index names ∷ index names ∷ [])
-    (cond (eqb tag ASSIGN-NAMED-OP) (index names ∷ index opAssignments ∷ [])
-    (cond (eqb tag ASSIGN-LOCAL-OP) (slot ∷ index names ∷ index opAssignments ∷ [])
-    (cond (eqb tag ASSIGN-THIS-OP) (index opAssignments ∷ [])
-    (cond (eqb tag CHAIN) (index chains ∷ [])
-    (cond (eqb tag SWITCH) (index switches ∷ [])
-    (cond (eqb tag CUSTOM-SYNTAX) (index sites ∷ [])
-    (cond (among tag (UNWIND-TO ∷ STATEMENT ∷ SHARE ∷ LOAD-SHARED ∷ LOAD-LOCAL ∷ stores ++ checks)) (slot ∷ [])
-    []))))))))))))))))))))
+unfolding lookUp among
+layout tag = lookUp layouts [] tag
 
 -- the number of the first count among fields that start at an offset of the code, 0 where there is none
 unfoldable pub countFrom : List Field → List ℕ → ℕ → ℕ

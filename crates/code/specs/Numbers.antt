@@ -1,5 +1,5 @@
--- Numbers of several bytes, the lowest byte first. Document 01, "Modules": "little-endian numbers"; a number whose bytes
--- are cut off is none.
+-- Numbers of several bytes, the lowest byte first. Document 01, "Modules": "little-endian numbers"; a number whose
+-- bytes are cut off is none.
 use mathlib.Core.Bool.{cond}
 use mathlib.Core.List.{List}
 use Prim.Native.Nat.{ℕ, zero, suc, _+_, _*_}

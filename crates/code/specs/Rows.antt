@@ -1,5 +1,5 @@
--- The numbers that the code keeps of the widths: sixteen tags to a number, a hexadecimal digit each, the lowest tag in the lowest
--- digit. Document 01, "Tags": the runs of widths.
+-- The numbers that the code keeps of the widths: sixteen tags to a number, a hexadecimal digit each, the lowest tag in
+-- the lowest digit. Document 01, "Tags": the runs of widths.
 use mathlib.Core.List.{List, [], _∷_}
 use Prim.Native.Nat.{ℕ}
 

@@ -10,8 +10,8 @@ ghost use Rattle.code.specs.Width.{numbered, toldAt, widthOf};
 
 pub mod tag;
 
-// The widths of sixteen tags, a hexadecimal digit each, the lowest tag in the lowest digit; 0 marks a byte that is no tag. The
-// numbers stand in a `match`, since an array would be stored anew at every use.
+// The widths of sixteen tags, a hexadecimal digit each, the lowest tag in the lowest digit; 0 marks a byte that is no
+// tag. The numbers stand in a `match`, since an array would be stored anew at every use.
 fn width_row(row: u8) -> u64
     ensures { λ r. ⌜ r ≡ getD rows row 0 ⌝ }
 {

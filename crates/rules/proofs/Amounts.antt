@@ -1,7 +1,7 @@
--- Amounts of operands: those that the code computes are those of the instruction; and nothing pops more than it needs, or
--- pushes more than one; where control does not fall through nothing is pushed.
+-- Amounts of operands: those that the code computes are those of the instruction; and nothing pops more than it needs,
+-- or pushes more than one; where control does not fall through nothing is pushed.
 use mathlib.Core.Bool.{Bool, true, false, _||_}
-use mathlib.Core.List.{List, [], _∷_}
+use mathlib.Core.List.{List, [], _∷_, List·Memᴰ}
 use mathlib.Core.Path.{_≡_, refl}
 use Prim.Native.Nat.{ℕ, _+_, _*_, _/_, _%_, _≤_, _<_}
 use native.Mathlib.Nat.{mul-le-mul-right}
@@ -9,13 +9,15 @@ use native.Mathlib.Omega.{arith}
 use borrow.Author.Tests.{ne-eqb}
 use lib.Dec.{T, leb, eqb, leb→le, eqb→eq}
 use lib.ListN.{getD}
-use Rattle.code.specs.Layout.{among, tagAt, countAt, indexAt}
+use Rattle.code.proofs.ByTag.{tagsOf, once, row-holds}
+use Rattle.code.specs.ByTag.{Row, among}
+use Rattle.code.specs.Layout.{tagAt, countAt, indexAt}
 use Rattle.code.specs.Tags.{CHAIN}
 use Rattle.code.specs.Width.{widthAt}
 use Rattle.pools.specs.Pools.{chainAt}
 use Rattle.rules.specs.Acts.{Acts}
 use Rattle.rules.specs.Edges.{falls}
-use Rattle.rules.specs.Effects.{effect, operandsOf, needs, pops, pushes}
+use Rattle.rules.specs.Effects.{Effect, effects, effect, operandsOf, needs, pops, pushes}
 use Rattle.rules.specs.Shapes.{Shape}
 use Rattle.rules.specs.There.{ChainEntry, ChainThere}
 use Rattle.answer.proofs.Apart.{zero≢one}
@@ -37,12 +39,16 @@ module _ (code chains : List ℕ) (p : ℕ) where
   -- a CHAIN's effect is its operands k
   pub chain-acts : tagAt code p ≡ CHAIN → (k : ℕ) → k ≡ chainAt chains (indexAt code p) .operands
       → Acts code chains p (record { needs = k; pops = k; pushes = 1 })
-  unfolding needs pops pushes operandsOf effect among
+  unfolding needs pops pushes operandsOf effect
   chain-acts e k h = record { needed = rw e (omega arith); popped = rw e (omega arith); pushed = rw (e, pushes) refl }
 
   -- any other's is made of its word and its count n
   pub word-acts : (tagAt code p ≡ CHAIN → ⊥) → (word : ℕ) → Shape (tagAt code p) word → (n : ℕ) → n ≡ countAt code p
-      → Acts code chains p (record { needs = word % 4 + word / 4 % 4 * n; pops = word / 16 % 4 + word / 64 % 4 * n; pushes = word / 256 % 16 })
+      → Acts code chains p (record {
+        needs = word % 4 + word / 4 % 4 * n;
+        pops = word / 16 % 4 + word / 64 % 4 * n;
+        pushes = word / 256 % 16;
+      })
   unfolding needs pops pushes operandsOf
   word-acts e word s n h = record {
     needed = rw (s .needs-fixed, s .needs-perN, h, ne-eqb (tagAt code p) CHAIN e) (omega arith);
@@ -50,9 +56,16 @@ module _ (code chains : List ℕ) (p : ℕ) where
     pushed = s .pushes;
   }
 
--- part by part, what is popped is at most what is needed; at most one is pushed, and none where control does not fall through
+-- no tag is in two rows of the effects, so that each row holds of its tags
+pub effect-row : {row : Row Effect} → List·Memᴰ row effects → (tag : ℕ) → among tag (row .tags) ≡ true
+    → effect tag ≡ row .says
+unfolding effect once tagsOf
+effect-row = row-holds effects _ tt
+
+-- part by part, what is popped is at most what is needed; at most one is pushed, and none where control does not fall
+-- through
 tests : ℕ → List Bool
-unfolding effect falls among
+unfolding effect falls
 tests tag =
     leb (effect tag .pops .fixed) (effect tag .needs .fixed)
     ∷ leb (effect tag .pops .perN) (effect tag .needs .perN)

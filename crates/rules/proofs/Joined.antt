@@ -1,5 +1,5 @@
 -- Rights joined: of a name, of a step, of steps from the last back, of a chain, and of an instruction.
-use mathlib.Core.Bool.{Bool, true, false, _||_}
+use mathlib.Core.Bool.{Bool, true, false}
 use mathlib.Core.List.{List}
 use mathlib.Core.Path.{_≡_, refl, sym, ap, _∙_}
 use Prim.Native.Nat.{ℕ, suc, _+_, _-_, _*_, _/_, _%_, _≤_, _<_}
@@ -8,12 +8,14 @@ use borrow.Author.Tests.{eq-eqb, ne-eqb, eqb-true, eqb-false, le-leb}
 use lib.Bits.{bitOr}
 use lib.Dec.{eqb}
 use lib.ListN.{length, getD}
+use Rattle.code.proofs.Among.{or-true}
 use Rattle.code.specs.Layout.{among, tagAt, indexAt}
 use Rattle.code.specs.Tags.{CHAIN}
 use Rattle.code.specs.Width.{widthAt}
 use Rattle.pools.specs.Pools.{chainAt, stepAt, entries}
 use Rattle.rules.specs.Asks.{qualifiable, asking, Asks}
-use Rattle.rules.specs.Rights.{THIS, INDEXING, PROPERTY, METHOD, MODULE, ofName, ofStep, ofSteps, ofChain, required}
+use Rattle.rules.specs.Bits.{THIS, INDEXING, PROPERTY, METHOD, MODULE}
+use Rattle.rules.specs.Rights.{ofName, ofStep, ofSteps, ofChain, required}
 use Rattle.rules.specs.There.{NameThere, ChainWhole, ChainThere}
 use Rattle.rules.proofs.Operands.{index-there, chain-there}
 
@@ -53,15 +55,16 @@ module _ (steps : List ℕ) (first count : ℕ) where
       let none : count - count ≡ 0 = omega arith in
       record { some-left = omega arith; joined = rw none refl }
 
-  pub one-joined : {caps i : ℕ} → Rest steps first count caps i → 0 < i → (right : ℕ) → right ≡ ofStep (stepAt steps (first + (i - 1)))
-      → Rest steps first count (bitOr right caps) (i - 1)
+  pub one-joined : {caps i : ℕ} → Rest steps first count caps i → 0 < i
+      → (right : ℕ) → right ≡ ofStep (stepAt steps (first + (i - 1))) → Rest steps first count (bitOr right caps) (i - 1)
   unfolding ofSteps entries
   one-joined {caps} {i} r h right e =
       let one-more : count - (i - 1) ≡ suc (count - i) = omega (arith, r .some-left) in
       let after : first + (i - 1) + 1 ≡ first + i = omega arith in
       record { some-left = omega (arith, r .some-left); joined = rw (one-more, after, e, r .joined) refl }
 
-  pub all-joined : {caps i : ℕ} → Rest steps first count caps i → i ≤ 0 → caps ≡ ofSteps (entries (stepAt steps) first count)
+  pub all-joined : {caps i : ℕ} → Rest steps first count caps i → i ≤ 0
+      → caps ≡ ofSteps (entries (stepAt steps) first count)
   all-joined {caps} {i} r h =
       let from : first + i ≡ first = omega arith in
       let whole : count - i ≡ count = omega arith in
@@ -85,10 +88,6 @@ pub record Asked (code names chains steps : List ℕ) (at word : ℕ) : Type 0 w
   pub name-there : NameThere code names at
   pub chain-whole : ChainThere code chains steps at
 
-or-true : (a : Bool) → (a || true) ≡ true
-or-true true = refl
-or-true false = refl
-
 module _ {code names chains steps : List ℕ} {at word : ℕ} (A : Asked code names chains steps at word) where
   -- the rights say all
   pub word-rights : word / 16384 ≡ 0 → word ≡ required code names chains steps at
@@ -107,7 +106,8 @@ module _ {code names chains steps : List ℕ} {at word : ℕ} (A : Asked code na
     pub named-there : indexAt code at < length names
     named-there = A .name-there .name qualified
 
-    pub name-rights : (x : ℕ) → x ≡ ofName names (indexAt code at) → bitOr (word % 16384) x ≡ required code names chains steps at
+    pub name-rights : (x : ℕ) → x ≡ ofName names (indexAt code at)
+        → bitOr (word % 16384) x ≡ required code names chains steps at
     unfolding asking
     name-rights x e = rw e (sym (rw one) ∙ A .asks .needed code names chains steps at refl)
 
@@ -122,10 +122,13 @@ module _ {code names chains steps : List ℕ} {at word : ℕ} (A : Asked code na
     pub chained-there : ChainWhole chains steps (indexAt code at)
     chained-there = A .chain-whole .chain is-chain
 
-    pub chain-rights : (x : ℕ) → x ≡ ofChain steps (chainAt chains (indexAt code at)) → x ≡ required code names chains steps at
+    pub chain-rights : (x : ℕ) → x ≡ ofChain steps (chainAt chains (indexAt code at))
+        → x ≡ required code names chains steps at
     unfolding asking
     chain-rights x e =
-        e ∙ sym (rw (ne-eqb (word / 16384) 0 more, ne-eqb (word / 16384) 1 not-one)) ∙ A .asks .needed code names chains steps at refl
+        e
+        ∙ sym (rw (ne-eqb (word / 16384) 0 more, ne-eqb (word / 16384) 1 not-one))
+        ∙ A .asks .needed code names chains steps at refl
 
   -- whichever decides, its index is there
   pub index-decided : (word / 16384 ≡ 0 → ⊥) → at + 3 ≤ length code

@@ -1,7 +1,7 @@
 -- Where an instruction leads to, and with which depths. Document 01, "Flat pools and sizes": "T is the targets named by
--- instructions that start in the chunk, repeats counted, E their outgoing edges"; "Order of the tests": "the fall-through
--- pushed last. ITER_NEXT* [...] exit keeps the depth with one iterator less, fall-through has depth + 1. A handler's target
--- has the operands from before the `try` and one handler more. SWITCH goes cases, ranges, default."
+-- instructions that start in the chunk, repeats counted, E their outgoing edges"; "Order of the tests": "the
+-- fall-through pushed last. ITER_NEXT* [...] exit keeps the depth with one iterator less, fall-through has depth + 1. A
+-- handler's target has the operands from before the `try` and one handler more. SWITCH goes cases, ranges, default."
 use mathlib.Core.Bool.{Bool, not, cond}
 use mathlib.Core.List.{List, [], _∷_, _++_, map}
 use Prim.Native.Nat.{ℕ, _+_, _-_}
@@ -42,15 +42,23 @@ targetsOf code switches cases ranges p =
 unfoldable pub afterOf : (tag pops pushes : ℕ) → Depths → Depths
 afterOf tag pops pushes d = record {
   operands = d .operands - pops + pushes;
-  iterators = cond (eqb tag ITER-INIT) (d .iterators + 1) (cond (eqb tag ITER-DROP) (d .iterators - 1) (d .iterators));
-  handlers = cond (among tag pushHandlers) (d .handlers + 1) (cond (eqb tag POP-HANDLER) (d .handlers - 1) (d .handlers));
+  iterators =
+      cond (eqb tag ITER-INIT) (d .iterators + 1)
+      (cond (eqb tag ITER-DROP) (d .iterators - 1)
+      (d .iterators));
+  handlers =
+      cond (among tag pushHandlers) (d .handlers + 1)
+      (cond (eqb tag POP-HANDLER) (d .handlers - 1)
+      (d .handlers));
 }
 
 -- the depths at each of its targets, from those before it and those after it
 unfoldable pub jumpedOf : (tag : ℕ) (before after : Depths) → Depths
 jumpedOf tag before after =
-    cond (among tag iterNexts) (record { operands = before .operands; iterators = before .iterators - 1; handlers = before .handlers })
-    (cond (among tag pushHandlers) (record { operands = before .operands; iterators = before .iterators; handlers = before .handlers + 1 })
+    cond (among tag iterNexts)
+    (record { operands = before .operands; iterators = before .iterators - 1; handlers = before .handlers })
+    (cond (among tag pushHandlers)
+    (record { operands = before .operands; iterators = before .iterators; handlers = before .handlers + 1 })
     after)
 
 -- the same of the instruction at a place of a script

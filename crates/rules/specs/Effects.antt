@@ -1,10 +1,13 @@
--- What an instruction does to the operands. Document 01, "Tags": "Needs/pops/pushes".
+-- What an instruction does to the operands. Document 01, "Tags": "Needs/pops/pushes", a row for each that it gives.
 use mathlib.Core.Bool.{cond}
 use mathlib.Core.List.{List, [], _∷_, _++_}
 use Prim.Native.Nat.{ℕ, _+_, _*_}
 use lib.Dec.{eqb}
-use Rattle.code.specs.Layout.{among, tagAt, countAt, indexAt}
-use Rattle.code.specs.Tags.{UNIT, FALSE, TRUE, POP, RETURN, THROW, ITER-INIT, INTERPOLATE-START, INTERPOLATE-APPEND, INTERPOLATE-END, IS-SHARED, MAKE-FN-PTR, ROTATE, CURRY, MAKE-CLOSURE, CHAIN, MAKE-ARRAY, MAKE-MAP, SWITCH, IMPORT, CALL, SKIP-IF-NOT-UNIT, CALL-OP}
+use Rattle.code.specs.ByTag.{Row, _for_, among, lookUp}
+use Rattle.code.specs.Layout.{tagAt, countAt, indexAt}
+use Rattle.code.specs.Tags.{UNIT, FALSE, TRUE, POP, RETURN, THROW, ITER-INIT, INTERPOLATE-START, INTERPOLATE-APPEND}
+use Rattle.code.specs.Tags.{INTERPOLATE-END, IS-SHARED, MAKE-FN-PTR, ROTATE, CURRY, MAKE-CLOSURE, CHAIN, MAKE-ARRAY}
+use Rattle.code.specs.Tags.{MAKE-MAP, SWITCH, IMPORT, CALL, SKIP-IF-NOT-UNIT, CALL-OP}
 use Rattle.code.specs.Tags.{loads, stores, declares, assigns, jumpIfs, checks, callRefs, callFnPtrs, iterNexts}
 use Rattle.pools.specs.Pools.{chainAt}
 
@@ -34,21 +37,29 @@ pub record Effect : Type 0 where
   pub pops : Amount
   pub pushes : ℕ
 
-abbrev pub acts : Amount → Amount → ℕ → Effect
-acts needs pops pushes = record { needs = needs; pops = pops; pushes = pushes }
+infix 20 _/_/_
+abbrev pub _/_/_ : Amount → Amount → ℕ → Effect
+needs / pops / pushes = record { needs = needs; pops = pops; pushes = pushes }
 
+abbrev pub effects : List (Row Effect)
+effects =
+    (just 0 / just 0 / 1 for UNIT ∷ FALSE ∷ TRUE ∷ loads ++ MAKE-CLOSURE ∷ INTERPOLATE-START ∷ iterNexts)
+    ∷ (just 1 / just 1 / 0 for POP ∷ stores ++ declares ++ assigns ++ IMPORT ∷ RETURN ∷ THROW ∷ SWITCH ∷ ITER-INIT ∷
+    jumpIfs)
+    ∷ (just 1 / just 1 / 1 for IS-SHARED ∷ MAKE-FN-PTR ∷ INTERPOLATE-END ∷ [])
+    ∷ (just 2 / just 1 / 0 for INTERPOLATE-APPEND ∷ [])
+    ∷ (just 1 / just 0 / 0 for SKIP-IF-NOT-UNIT ∷ checks)
+    ∷ (n / just 0 / 0 for ROTATE ∷ [])
+    ∷ (n / n / 1 for CALL ∷ CALL-OP ∷ callRefs ++ MAKE-ARRAY ∷ [])
+    ∷ (n+1 / n+1 / 1 for CURRY ∷ callFnPtrs)
+    ∷ (2n / 2n / 1 for MAKE-MAP ∷ [])
+    ∷ (k / k / 1 for CHAIN ∷ [])
+    ∷ []
+
+-- all others 0/0/0
 unfoldable pub effect : ℕ → Effect
-effect tag =
-    cond (among tag (UNIT ∷ FALSE ∷ TRUE ∷ loads ++ MAKE-CLOSURE ∷ INTERPOLATE-START ∷ iterNexts)) (acts (just 0) (just 0) 1)
-    (cond (among tag (POP ∷ stores ++ declares ++ assigns ++ IMPORT ∷ RETURN ∷ THROW ∷ SWITCH ∷ ITER-INIT ∷ jumpIfs)) (acts (just 1) (just 1) 0)
-    (cond (among tag (IS-SHARED ∷ MAKE-FN-PTR ∷ INTERPOLATE-END ∷ [])) (acts (just 1) (just 1) 1)
-    (cond (eqb tag INTERPOLATE-APPEND) (acts (just 2) (just 1) 0)
-    (cond (among tag (SKIP-IF-NOT-UNIT ∷ checks)) (acts (just 1) (just 0) 0)
-    (cond (eqb tag ROTATE) (acts n (just 0) 0)
-    (cond (among tag (CALL ∷ CALL-OP ∷ callRefs ++ MAKE-ARRAY ∷ [])) (acts n n 1)
-    (cond (among tag (CURRY ∷ callFnPtrs)) (acts n+1 n+1 1)
-    (cond (eqb tag MAKE-MAP) (acts 2n 2n 1)
-    (cond (eqb tag CHAIN) (acts k k 1) (acts (just 0) (just 0) 0))))))))))
+unfolding lookUp among
+effect tag = lookUp effects (just 0 / just 0 / 0) tag
 
 -- of the instruction at a place: the operands of the chain that it names, and the three numbers of its effect
 module _ (code chains : List ℕ) (p : ℕ) where

@@ -1,5 +1,6 @@
 pub mod Script
 pub mod Effects
+pub mod Bits
 pub mod Rights
 pub mod Edges
 pub mod Asks

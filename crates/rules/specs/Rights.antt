@@ -1,61 +1,28 @@
--- Which rights an instruction needs, as a word of bits. Document 01, "Tags": "Rights bits from 0", "`required_caps` in 000
--- says who needs what; a name is qualified if its lent flag byte is not 0".
+-- Which rights an instruction needs, as a word of bits. Document 01, "Tags": "`required_caps` in 000 says who needs
+-- what; a name is qualified if its lent flag byte is not 0".
 use mathlib.Core.Bool.{cond}
 use mathlib.Core.List.{List, [], _∷_}
-use Prim.Native.Nat.{ℕ, _-_, _^_}
+use Prim.Native.Nat.{ℕ, _-_}
 use lib.Bits.{bitAnd, bitOr}
 use lib.Dec.{eqb}
 use lib.ListN.{getD}
-use Rattle.code.specs.Layout.{among, tagAt, indexAt}
-use Rattle.code.specs.Tags.{IS-SHARED, MAKE-FN-PTR, LOAD-THIS, LOAD-THIS-SHARED, REQUIRE-THIS, ASSIGN-THIS, CURRY, SHARE, SHARE-NAMED, ASSIGN-THIS-OP, MAKE-CLOSURE, LOAD-NAMED, CHAIN, MAKE-ARRAY, MAKE-MAP, CUSTOM-SYNTAX, IMPORT, CALL, CALL-THIS-REF, EXPORT-LOCAL, EXPORT-NAMED, CALL-OP, CALL-LOCAL-REF, CALL-NAMED-REF, callFnPtrs}
+use Rattle.code.specs.ByTag.{Row, _for_, among, lookUp}
+use Rattle.code.specs.Layout.{tagAt, indexAt}
+use Rattle.code.specs.Tags.{IS-SHARED, MAKE-FN-PTR, LOAD-THIS, LOAD-THIS-SHARED, REQUIRE-THIS, ASSIGN-THIS, CURRY}
+use Rattle.code.specs.Tags.{SHARE, SHARE-NAMED, ASSIGN-THIS-OP, MAKE-CLOSURE, LOAD-NAMED, CHAIN, MAKE-ARRAY, MAKE-MAP}
+use Rattle.code.specs.Tags.{CUSTOM-SYNTAX, IMPORT, CALL, CALL-THIS-REF, EXPORT-LOCAL, EXPORT-NAMED, CALL-OP}
+use Rattle.code.specs.Tags.{CALL-LOCAL-REF, CALL-NAMED-REF, callFnPtrs}
 use Rattle.pools.specs.Pools.{Chain, Step, chainAt, stepsOf}
+use Rattle.rules.specs.Bits as bit
 
--- the bits that an instruction can ask for
-abbrev pub THIS : ℕ
-THIS = 2 ^ 1
-
-abbrev pub INDEXING : ℕ
-INDEXING = 2 ^ 2
-
-abbrev pub PROPERTY : ℕ
-PROPERTY = 2 ^ 3
-
-abbrev pub METHOD : ℕ
-METHOD = 2 ^ 4
-
-abbrev pub FN-PTR : ℕ
-FN-PTR = 2 ^ 5
-
-abbrev pub CURRYING : ℕ
-CURRYING = 2 ^ 6
-
-abbrev pub SHARING : ℕ
-SHARING = 2 ^ 7
-
-abbrev pub ARRAY : ℕ
-ARRAY = 2 ^ 8
-
-abbrev pub MAP : ℕ
-MAP = 2 ^ 9
-
-abbrev pub SYNTAX : ℕ
-SYNTAX = 2 ^ 10
-
-abbrev pub EXPORT : ℕ
-EXPORT = 2 ^ 11
-
-abbrev pub IMPORTING : ℕ
-IMPORTING = 2 ^ 12
-
-abbrev pub MODULE : ℕ
-MODULE = 2 ^ 13
+-- ---- of what an instruction names
 
 -- MODULE for a qualified name
 unfoldable pub ofName : List ℕ → ℕ → ℕ
-ofName names name = cond (eqb (getD names name 0) 0) 0 MODULE
+ofName names name = cond (eqb (getD names name 0) 0) 0 bit.MODULE
 
 unfoldable pub ofStep : Step → ℕ
-ofStep s = cond (eqb (s .kind) 0) INDEXING (cond (eqb (s .kind) 1) PROPERTY METHOD)
+ofStep s = cond (eqb (s .kind) 0) bit.INDEXING (cond (eqb (s .kind) 1) bit.PROPERTY bit.METHOD)
 
 unfoldable pub ofSteps : List Step → ℕ
 ofSteps [] = 0
@@ -63,26 +30,51 @@ ofSteps (s ∷ ss) = bitOr (ofStep s) (ofSteps ss)
 
 -- THIS for a chain whose root is `this`, joined with what its steps need
 unfoldable pub ofChain : List ℕ → Chain → ℕ
-ofChain steps c = bitOr (cond (eqb (c .root) 2) THIS 0) (ofSteps (stepsOf steps c))
+ofChain steps c = bitOr (cond (eqb (c .root) 2) bit.THIS 0) (ofSteps (stepsOf steps c))
+
+-- ---- of a tag
+
+-- fixed bits, whatever the operands are; fixed bits joined with those of its name; those of its chain
+pub data Need : Type 0 where
+  fixed named : (bits : ℕ) → Need
+  chained : Need
+
+-- in the order of `required_caps`
+abbrev pub needs : List (Row Need)
+needs =
+    (chained for CHAIN ∷ [])
+    ∷ (fixed bit.FN-PTR for MAKE-FN-PTR ∷ MAKE-CLOSURE ∷ callFnPtrs)
+    ∷ (fixed (bitOr bit.FN-PTR bit.CURRYING) for CURRY ∷ [])
+    ∷ (fixed bit.SHARING for SHARE ∷ SHARE-NAMED ∷ [])
+    ∷ (fixed bit.THIS for REQUIRE-THIS ∷ LOAD-THIS ∷ LOAD-THIS-SHARED ∷ ASSIGN-THIS ∷ ASSIGN-THIS-OP ∷ [])
+    ∷ (fixed bit.ARRAY for MAKE-ARRAY ∷ [])
+    ∷ (fixed bit.MAP for MAKE-MAP ∷ [])
+    ∷ (fixed bit.SHARING for IS-SHARED ∷ [])
+    ∷ (fixed bit.CUSTOM-SYNTAX for CUSTOM-SYNTAX ∷ [])
+    ∷ (fixed bit.EXPORT for EXPORT-LOCAL ∷ EXPORT-NAMED ∷ [])
+    ∷ (fixed bit.IMPORT for IMPORT ∷ [])
+    ∷ (named 0 for LOAD-NAMED ∷ CALL ∷ CALL-OP ∷ CALL-LOCAL-REF ∷ CALL-NAMED-REF ∷ [])
+    ∷ (named bit.THIS for CALL-THIS-REF ∷ [])
+    ∷ []
+
+-- all others need none
+unfoldable pub need : ℕ → Need
+unfolding lookUp among
+need tag = lookUp needs (fixed 0) tag
+
+-- ---- of the instruction at a place
+
+-- what a need comes to, where the name and the chain need these
+unfoldable pub comesTo : (name chain : ℕ) → Need → ℕ
+comesTo name chain (fixed bits) = bits
+comesTo name chain (named bits) = bitOr bits name
+comesTo name chain chained = chain
 
 module _ (code names chains steps : List ℕ) (p : ℕ) where
   unfoldable pub required : ℕ
+  unfolding need comesTo
   required =
-      cond (among tag (MAKE-FN-PTR ∷ MAKE-CLOSURE ∷ callFnPtrs)) FN-PTR
-      (cond (eqb tag CURRY) (bitOr FN-PTR CURRYING)
-      (cond (among tag (SHARE ∷ SHARE-NAMED ∷ IS-SHARED ∷ [])) SHARING
-      (cond (among tag (REQUIRE-THIS ∷ LOAD-THIS ∷ LOAD-THIS-SHARED ∷ ASSIGN-THIS ∷ ASSIGN-THIS-OP ∷ [])) THIS
-      (cond (eqb tag MAKE-ARRAY) ARRAY
-      (cond (eqb tag MAKE-MAP) MAP
-      (cond (eqb tag CUSTOM-SYNTAX) SYNTAX
-      (cond (among tag (EXPORT-LOCAL ∷ EXPORT-NAMED ∷ [])) EXPORT
-      (cond (eqb tag IMPORT) IMPORTING
-      (cond (among tag (LOAD-NAMED ∷ CALL ∷ CALL-OP ∷ CALL-LOCAL-REF ∷ CALL-NAMED-REF ∷ [])) (ofName names (indexAt code p))
-      (cond (eqb tag CALL-THIS-REF) (bitOr THIS (ofName names (indexAt code p)))
-      (cond (eqb tag CHAIN) (ofChain steps (chainAt chains (indexAt code p))) 0)))))))))))
-    where
-      tag : ℕ
-      tag = tagAt code p
+      comesTo (ofName names (indexAt code p)) (ofChain steps (chainAt chains (indexAt code p))) (need (tagAt code p))
 
 -- what is needed of a word of rights and is not in it
 unfoldable pub lacking : (needed rights : ℕ) → ℕ

@@ -1,6 +1,6 @@
--- What the word that the crate keeps for a tag says of it, digit by digit. The digits of base 16, the lowest first: what an
--- instruction needs and what it pops, each so many and 4 more for each of its count n; what it pushes; its width; where n
--- stands; its flow; and in four more its rights.
+-- What the word that the crate keeps for a tag says of it, digit by digit. The digits of base 16, the lowest first:
+-- what an instruction needs and what it pops, each so many and 4 more for each of its count n; what it pushes; its
+-- width; where n stands; its flow; and in four more its rights.
 use mathlib.Core.Bool.{Bool, _&&_, cond}
 use mathlib.Core.List.{List, [], _∷_}
 use mathlib.Core.Path.{_≡_}
@@ -15,8 +15,8 @@ use Rattle.rules.specs.Edges.{jumping, falls, plain}
 use Rattle.rules.specs.Effects.{effect}
 use Rattle.rules.specs.Needs.{iteratorsNeeded, handlersNeeded}
 
--- where the first count among fields stands, the first of which has this offset from the tag: the count's own offset, and 8
--- more where it has two bytes; 0 where there is no count
+-- where the first count among fields stands, the first of which has this offset from the tag: the count's own offset,
+-- and 8 more where it has two bytes; 0 where there is no count
 unfoldable pub placeFrom : List Field → ℕ → ℕ
 placeFrom [] at = 0
 placeFrom (count8 ∷ fields) at = at
@@ -25,8 +25,8 @@ placeFrom (target ∷ fields) at = placeFrom fields (at + 4)
 placeFrom (slot ∷ fields) at = placeFrom fields (at + 2)
 placeFrom (index pool ∷ fields) at = placeFrom fields (at + 2)
 
--- the flows by number: 0 none of the following, 1 ITER_INIT, 2 POP_HANDLER, 3 ITER_DROP, 4 ITER_NEXT*, 5 PUSH_HANDLER*, 6 the
--- branches, 7 JUMP, 8 SWITCH, 9 RETURN and THROW
+-- the flows by number: 0 none of the following, 1 ITER_INIT, 2 POP_HANDLER, 3 ITER_DROP, 4 ITER_NEXT*, 5 PUSH_HANDLER*,
+-- 6 the branches, 7 JUMP, 8 SWITCH, 9 RETURN and THROW
 pub record Flow (tag flow : ℕ) : Type 0 where
   pub is-plain : ltb flow 4 ≡ plain tag
   pub falls-on : ltb flow 7 ≡ falls tag

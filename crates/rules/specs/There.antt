@@ -1,6 +1,6 @@
 -- What a caller knows of an instruction before its rule is asked: that the entries which it names are there, and the
--- iterators and handlers that it needs. The checks of tables and indices that come before any walk establish the entries at
--- every start of the code.
+-- iterators and handlers that it needs. The checks of tables and indices that come before any walk establish the
+-- entries at every start of the code.
 use mathlib.Core.Bool.{true}
 use mathlib.Core.List.{List}
 use mathlib.Core.Path.{_≡_}

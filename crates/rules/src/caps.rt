@@ -1,5 +1,7 @@
-// The rights that instructions ask for, as bits of a word. Document 01 numbers the bits: from THIS, bit 1, to MODULE, bit 13.
-// FUNCTION, bit 0, and those above MODULE are asked for by no instruction. Which tag asks for which stands in its word (shapes).
+// The rights bits that the code asks for by name, with document 01's numbers. The others stand in the words of the tags
+// that ask for them (shapes), or in the words that a caller lends for its constants.
+
+pub const FUNCTION: u32 = 0x0001;
 
 pub const THIS: u32 = 0x0002;
 
@@ -11,5 +13,6 @@ pub const METHOD: u32 = 0x0010;
 
 pub const MODULE: u32 = 0x2000;
 
-// Above the bits: what else decides, once this number for the flag of the name that the instruction names, twice for its chain.
+// Above the bits: what else decides, once this number for the flag of the name that the instruction names, twice for
+// its chain.
 pub const NAMED: u32 = 0x4000;

@@ -1,5 +1,5 @@
-// Where an instruction leads to, and with which depths: document 01's targets and edges. What depends on the tag alone goes
-// by its flow (shapes), so that whoever asks several of these looks the tag up once.
+// Where an instruction leads to, and with which depths: document 01's targets and edges. What depends on the tag alone
+// goes by its flow (shapes), so that whoever asks several of these looks the tag up once.
 ghost use mathlib.Core.Bool.{cond};
 ghost use mathlib.Core.List.{List};
 ghost use mathlib.Core.Path.{_≡_};
@@ -89,8 +89,8 @@ pub fn after(flow: u32, effect: Effect, d: Depths) -> Depths
     }
 }
 
-// The depths at each of an instruction's targets, from those before it and those after it. An iterator that has ended is
-// dropped, and its exit finds nothing pushed; a handler finds the operands from before it.
+// The depths at each of an instruction's targets, from those before it and those after it. An iterator that has ended
+// is dropped, and its exit finds nothing pushed; a handler finds the operands from before it.
 pub fn jumped(flow: u32, before: Depths, after: Depths) -> Depths
     requires { ⌜ HeldBy flow before ⌝ }
     ensures { λ r. ⌜ ((tag : ℕ) → Flow tag flow → r ≡ jumpedOf tag before after) ⌝ }
@@ -115,7 +115,8 @@ pub fn target_count(flow: u32, code: &[u8], at: usize, switches: &[u32]) -> u64
     requires { ⌜ Flow (tagAt (now code) at) flow ⌝ }
     requires { ⌜ 0 < widthAt (now code) at ⌝ }
     requires { ⌜ SwitchEntry (now code) (now switches) at ⌝ }
-    ensures { λ r. ⌜ (r < 2 ^ 63) × ((cases ranges : List ℕ) → r ≡ length (targetsOf (now (code .entry)) (now (switches .entry)) cases ranges at)) ⌝ }
+    ensures { λ r. ⌜ (r < 2 ^ 63) × ((cases ranges : List ℕ)
+        → r ≡ length (targetsOf (now (code .entry)) (now (switches .entry)) cases ranges at)) ⌝ }
 {
     if flow < shapes::ITER_NEXT {
         return 0;
@@ -131,8 +132,8 @@ pub fn target_count(flow: u32, code: &[u8], at: usize, switches: &[u32]) -> u64
     0
 }
 
-// How many edges lead out of an instruction with so many targets: one to each, and one to the next instruction where control
-// falls through.
+// How many edges lead out of an instruction with so many targets: one to each, and one to the next instruction where
+// control falls through.
 pub fn edge_count(flow: u32, targets: u64) -> u64
     requires { ⌜ targets < 2 ^ 63 ⌝ }
     ensures { λ r. ⌜ ((tag : ℕ) → Flow tag flow → r ≡ targets + cond (falls tag) 1 0) ⌝ }
@@ -144,7 +145,8 @@ pub fn edge_count(flow: u32, targets: u64) -> u64
 fn arm(switches: &[u32], cases: &[u32], ranges: &[u32], i: usize, k: usize) -> u32
     requires { ⌜ SwitchWhole (now switches) (now cases) (now ranges) i ⌝ }
     requires { ⌜ k < length (armsOf (now cases) (now ranges) (switchAt (now switches) i)) ⌝ }
-    ensures { λ r. ⌜ r ≡ getD (armsOf (now (cases .entry)) (now (ranges .entry)) (switchAt (now (switches .entry)) i)) k 0 ⌝ }
+    ensures { λ r. ⌜ r
+        ≡ getD (armsOf (now (cases .entry)) (now (ranges .entry)) (switchAt (now (switches .entry)) i)) k 0 ⌝ }
 {
     let words = i * SWITCH_WORDS;
     let case_count = switches[words + 1] as usize;
@@ -173,7 +175,8 @@ pub fn jump_target(
     requires { ⌜ 0 < widthAt (now code) at ⌝ }
     requires { ⌜ SwitchThere (now code) (now switches) (now cases) (now ranges) at ⌝ }
     requires { ⌜ k < length (targetsOf (now code) (now switches) (now cases) (now ranges) at) ⌝ }
-    ensures { λ r. ⌜ r ≡ getD (targetsOf (now (code .entry)) (now (switches .entry)) (now (cases .entry)) (now (ranges .entry)) at) k 0 ⌝ }
+    ensures { λ r. ⌜ r
+        ≡ getD (targetsOf (now (code .entry)) (now (switches .entry)) (now (cases .entry)) (now (ranges .entry)) at) k 0 ⌝ }
 {
     if code[at] == tag::SWITCH {
         let i = code::read_u16(code, at + 1) as usize;

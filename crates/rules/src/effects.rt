@@ -30,7 +30,11 @@ fn count_at(word: u64, code: &[u8], at: usize) -> u16
 
 // What a tag's word says of an instruction with the count n.
 fn counted(word: u64, n: u16) -> Effect
-    ensures { λ r. ⌜ r ≡ record { needs = word % 4 + word / 4 % 4 * n; pops = word / 16 % 4 + word / 64 % 4 * n; pushes = word / 256 % 16 } ⌝ }
+    ensures { λ r. ⌜ r ≡ record {
+      needs = word % 4 + word / 4 % 4 * n;
+      pops = word / 16 % 4 + word / 64 % 4 * n;
+      pushes = word / 256 % 16;
+    } ⌝ }
 {
     let times = n as u32;
     Effect {
@@ -42,7 +46,8 @@ fn counted(word: u64, n: u16) -> Effect
 
 // The effect of an instruction with a simple word.
 pub fn fixed_effect(word: u64) -> Effect
-    ensures { λ r. ⌜ ((code chains : List ℕ) (at : ℕ) → Shape (tagAt code at) word → simple word ≡ true → 0 < widthAt code at → Acts code chains at r) ⌝ }
+    ensures { λ r. ⌜ ((code chains : List ℕ) (at : ℕ) → Shape (tagAt code at) word → simple word ≡ true
+        → 0 < widthAt code at → Acts code chains at r) ⌝ }
 {
     counted(word, 0)
 }

@@ -1,7 +1,7 @@
 // What one instruction needs, does and leads to: operands, rights, and the places that control goes on to.
 // Every answer is fixed by the code, the lent tables and the offset of the instruction. Whoever calls knows that the
 // instruction has its width and that the entries it names are there. Walking a chunk is left to `walk`.
-mod caps;
+pub mod caps;
 pub mod edges;
 pub mod effects;
 pub mod rights;

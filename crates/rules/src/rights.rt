@@ -80,7 +80,8 @@ pub fn required_caps(
     requires { ⌜ 0 < widthAt (now code) at ⌝ }
     requires { ⌜ NameThere (now code) (now names) at ⌝ }
     requires { ⌜ ChainThere (now code) (now chains) (now steps) at ⌝ }
-    ensures { λ r. ⌜ r ≡ required (now (code .entry)) (now (names .entry)) (now (chains .entry)) (now (steps .entry)) at ⌝ }
+    ensures { λ r. ⌜ r
+        ≡ required (now (code .entry)) (now (names .entry)) (now (chains .entry)) (now (steps .entry)) at ⌝ }
 {
     let asked = shapes::asks_of(word);
     let decides = asked / caps::NAMED;

@@ -1,8 +1,8 @@
 // One word for each tag, so that a walk looks a tag up once where it would match on it several times.
-// In digits of base 16, the lowest first: what the instruction needs and what it pops, each so many and 4 more for each of
-// its count n; what it pushes; its width; where n stands, as its offset from the tag and 8 more where it has two bytes, 0
-// where there is none; its flow, below; and in the four highest the rights that it asks for (caps). A CHAIN's operands k
-// stand in its own table, and not here.
+// In digits of base 16, the lowest first: what the instruction needs and what it pops, each so many and 4 more for each
+// of its count n; what it pushes; its width; where n stands, as its offset from the tag and 8 more where it has two
+// bytes, 0 where there is none; its flow, below; and in the four highest the rights that it asks for (caps). A CHAIN's
+// operands k stand in its own table, and not here.
 ghost use mathlib.Core.Path.{_≡_};
 ghost use Prim.Native.Nat.{ℕ, _<_};
 ghost use Rattle.code.specs.Layout.{tagAt};
@@ -30,8 +30,8 @@ pub const JUMP: u32 = 7;
 // Above it 9, of RETURN and THROW.
 pub const SWITCH: u32 = 8;
 
-// A tag's word, a line for each: rights, flow, place of n, width; pushes, pops, needs. The numbers stand in a `match`, since an
-// array would be stored anew at every look.
+// A tag's word, a line for each: rights, flow, place of n, width; pushes, pops, needs. The numbers stand in a `match`,
+// since an array would be stored anew at every look.
 pub fn shape_of(tag: u8) -> u64
     ensures { λ r. ⌜ Shape tag r ⌝ }
 {
@@ -120,8 +120,8 @@ pub fn word_at(code: &[u8], at: usize) -> u64
     shape_of(code[at])
 }
 
-// Is there nothing in a word but what the instruction needs, pops and pushes, and its width? It has no count then and asks for
-// no rights, and control goes on to the next instruction with the iterators and handlers as they were.
+// Is there nothing in a word but what the instruction needs, pops and pushes, and its width? It has no count then and
+// asks for no rights, and control goes on to the next instruction with the iterators and handlers as they were.
 pub fn is_simple(word: u64) -> bool
     ensures { λ r. ⌜ r ≡ simple word ⌝ }
 {
