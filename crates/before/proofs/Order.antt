@@ -2,7 +2,7 @@
 use mathlib.Core.Bool.{Bool, true, false, cond}
 use mathlib.Core.List.{List}
 use mathlib.Core.Option.{none, some}
-use mathlib.Core.Path.{_≡_, refl, ap}
+use mathlib.Core.Path.{_≡_, refl}
 use Prim.Native.Nat.{ℕ, _+_, _/_, _≤_}
 use native.Mathlib.Omega.{arith}
 use borrow.Author.Tests.{eqb-true, ltb-false}
@@ -10,14 +10,12 @@ use lib.Dec.{ltb, eqb}
 use Rattle.indices.specs.Indices.{Sound, tables}
 use Rattle.indices.specs.declared.Sizes as counted
 use Rattle.pools.specs.Good.{GoodTables}
-use Rattle.pools.specs.Pools.{whole}
+use Rattle.pools.specs.Pools.{chainsIn, switchesIn}
 use Rattle.pools.specs.Sizes.{firstExceeded, Within}
 use Rattle.pools.specs.Tables.{firstBad}
-use Rattle.pools.specs.Told.{Told}
 use Rattle.pools.specs.declared.limits.Sizes.{Sizes}
-use Rattle.pools.proofs.First.{Upward, none as never, first-at}
-use Rattle.pools.proofs.LimitLaws as limit
-use Rattle.pools.proofs.TableLaws.{passed-good}
+use Rattle.pools.proofs.LimitLaws.{kept-within}
+use Rattle.pools.proofs.TableLaws.{passed-good, chains-within, switches-within}
 use Rattle.answer.specs.declared.Answer.the-variants.{TooLarge, BadTable, NoRoom}
 use Rattle.before.specs.Before.{limitsTest, tablesTest, roomTest, earlyTests}
 use Rattle.before.proofs.Tests.{both, not-refused}
@@ -26,18 +24,17 @@ use Rattle.before.proofs.Tests.{both, not-refused}
 
 within-limits : (sizes : Sizes) → limitsTest sizes ≡ none → Within sizes
 unfolding limitsTest
-within-limits sizes e = go (limit.outcome sizes) (eqb-true _ 0 (not-refused (eqb (firstExceeded sizes .kind) 0) (TooLarge (firstExceeded sizes .p)) e))
-  where
-    go : Upward limit.overTold (limit.overAt (limit.counts sizes)) limit.how-many (firstExceeded sizes) → firstExceeded sizes .kind ≡ 0 → Within sizes
-    go (never each q) z = limit.kept-within sizes (ap (λ (t : Told). t .p) q)
-    go (first-at i at q) z = absurd (omega (arith, ap (λ (t : Told). t .kind) q))
+within-limits sizes e =
+    let told = firstExceeded sizes in
+    kept-within sizes (eqb-true _ 0 (not-refused (eqb (told .kind) 0) (TooLarge (told .p)) e))
 
 good-tables : (chains steps switches cases ranges : List ℕ) → tablesTest chains steps switches cases ranges ≡ none
     → GoodTables chains steps switches cases ranges
 unfolding tablesTest
 good-tables chains steps switches cases ranges e =
     let found = firstBad chains steps switches cases ranges in
-    passed-good chains steps switches cases ranges (eqb-true _ 0 (not-refused (eqb (found .kind) 0) (BadTable (found .p) (found .q)) e))
+    passed-good chains steps switches cases ranges
+    (eqb-true _ 0 (not-refused (eqb (found .kind) 0) (BadTable (found .p) (found .q)) e))
 
 enough : (needed lent buffer : ℕ) → roomTest needed lent buffer ≡ none → needed ≤ lent
 unfolding roomTest
@@ -69,11 +66,12 @@ module _ (sizes : Sizes) (chains steps switches cases ranges : List ℕ) (marks 
       }
 
 -- so the tables are what the check of indices asks for, where the sizes are theirs
-pub sound : (sizes : counted.Sizes) {chains steps switches cases ranges : List ℕ} → sizes .chains ≡ whole 7 chains
-    → sizes .switches ≡ whole 5 switches → GoodTables chains steps switches cases ranges → Sound sizes (tables chains steps switches cases)
+pub sound : (sizes : counted.Sizes) {chains steps switches cases ranges : List ℕ} → sizes .chains ≡ chainsIn chains
+    → sizes .switches ≡ switchesIn switches → GoodTables chains steps switches cases ranges
+    → Sound sizes (tables chains steps switches cases)
 sound sizes c s g = record {
   chains-counted = c;
   switches-counted = s;
-  steps-within = λ i h. g .good-chains i h .within;
-  cases-within = λ i h. g .good-switches i h .cases-within;
+  chains-within = chains-within g;
+  cases-within = switches-within g .cases-within;
 }

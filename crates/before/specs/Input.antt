@@ -6,7 +6,7 @@ use denote.Ref.{RefT, now}
 use denote.Triple.Both.{Both}
 use lib.ListN.{length}
 use Rattle.indices.specs.declared.Sizes as counted
-use Rattle.pools.specs.Pools.{whole}
+use Rattle.pools.specs.Pools.{chainsIn, stepsIn, switchesIn, casesIn}
 use Rattle.pools.specs.declared.limits.Sizes.{Sizes}
 use Rattle.rules.specs.Script.{Script}
 
@@ -25,11 +25,11 @@ sizesOf I = record {
   names = length (I .script .pools .names);
   tokens = I .script .pools .tokens;
   «op_assignments» = I .script .pools .opAssignments;
-  steps = whole 4 (I .script .pools .steps);
-  cases = whole 2 (I .script .pools .cases);
+  steps = stepsIn (I .script .pools .steps);
+  cases = casesIn (I .script .pools .cases);
   ranges = length (I .script .pools .ranges);
-  chains = whole 7 (I .script .pools .chains);
-  switches = whole 5 (I .script .pools .switches);
+  chains = chainsIn (I .script .pools .chains);
+  switches = switchesIn (I .script .pools .switches);
   chunks = I .chunks;
 }
 

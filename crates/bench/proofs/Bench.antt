@@ -14,7 +14,7 @@ use Rattle.listing.specs.Listing.{startsBy, startsBefore}
 use Rattle.listing.specs.Walk.{walkFor}
 use Rattle.marks.specs.Marks.{marked, markedAll, total}
 use Rattle.pools.specs.Pools.{entries}
-use Rattle.pools.specs.Sizes.{maxCode, limits, firstExceeded}
+use Rattle.pools.specs.Sizes.{maxCode, limits, tells, firstOver}
 use Rattle.pools.specs.Tables as tables
 use Rattle.pools.specs.Told as told
 use Rattle.answer.specs.Answer.{numbered}
@@ -33,7 +33,7 @@ use Rattle.verify.specs.Call.{verdictOn, marksOn, concluded, onward, outcome}
 use Rattle.judging.specs.Judging.{judgeAll}
 
 computed : map answered bench ≡ map expected bench
-unfolding first limitsTest tablesTest roomTest rightsTest constantsTest functionTest widthTest indicesTest codeTest earlyTests lateTests marksOf word answered among layout countFrom indicesFrom little widthOf toldBy reference.firstBad reference.sizeOf reference.inCode reference.inRecord startsBy startsBefore walkFor marked markedAll total entries maxCode limits firstExceeded tables.ragged tables.wholeTable tables.firstBad told.first told.firstFrom numbered measured walked judgeChunk agree falls plain armsOf targetsOf afterOf jumpedOf next degree T E effect operandsOf needs pops pushes sumOf fallTo iteratorsNeeded handlersNeeded required lacking ofName ofChain allTargets rule judge push firstBad seen turn run lookup verdictOn marksOn concluded onward outcome judgeAll ones
+unfolding first limitsTest tablesTest roomTest rightsTest constantsTest functionTest widthTest indicesTest codeTest earlyTests lateTests marksOf word answered among layout countFrom indicesFrom little widthOf toldBy reference.firstBad reference.sizeOf reference.inCode reference.inRecord startsBy startsBefore walkFor marked markedAll total entries maxCode limits tells firstOver tables.ragged tables.wholeTable tables.firstBad told.first told.firstFrom numbered measured walked judgeChunk agree falls plain armsOf targetsOf afterOf jumpedOf next degree T E effect operandsOf needs pops pushes sumOf fallTo iteratorsNeeded handlersNeeded required lacking ofName ofChain allTargets rule judge push firstBad seen turn run lookup verdictOn marksOn concluded onward outcome judgeAll ones
 computed = refl
 
 -- lists that are equal under two functions have the same of both at each element

@@ -195,9 +195,8 @@ module _ (S : Script) (span : Span) where
     decoded = B .decoded;
     chain-there = B .chain-there;
     switch-there = B .switch-there;
-    steps-within = B .steps-within;
-    cases-within = B .cases-within;
-    ranges-within = B .ranges-within;
+    chains-within = B .chains-within;
+    switches-within = B .switches-within;
     in-order = B .in-order;
     in-code = B .in-code;
     aligned = B .aligned;

@@ -10,7 +10,8 @@ use Rattle.code.specs.Layout.{among, indexAt}
 use Rattle.code.specs.Tags.{CHAIN, SWITCH}
 use Rattle.code.specs.Width.{widthOf}
 use Rattle.listing.specs.Listing.{Start, starts, stopBy}
-use Rattle.pools.specs.Pools.{whole, chainAt, switchAt}
+use Rattle.pools.specs.Good.{ChainsWithin, SwitchesWithin}
+use Rattle.pools.specs.Pools.{chainsIn, switchesIn}
 use Rattle.answer.specs.declared.Answer.{Answer}
 use Rattle.answer.specs.declared.Answer.the-variants.{NoRoom, ChunkOutOfRange, Misaligned, StackExceedsDeclared, FallsOffTheEnd}
 use Rattle.demand.specs.Span.{T, E}
@@ -62,14 +63,10 @@ redeclared span declared = record { entry = span .entry; end = span .end; declar
 -- passed 7 and 8, and has its room.
 pub record BeforeWalk (S : Script) (span : Span) (records work : ℕ) : Type 0 where
   pub decoded : stopBy widthOf (S .code) 0 ≡ length (S .code)
-  pub chain-there : (p : ℕ) → Start widthOf (S .code) p → tagOf S p ≡ CHAIN → indexAt (S .code) p < whole 7 (S .pools .chains)
-  pub switch-there : (p : ℕ) → Start widthOf (S .code) p → tagOf S p ≡ SWITCH → indexAt (S .code) p < whole 5 (S .pools .switches)
-  pub steps-within : (i : ℕ) → i < whole 7 (S .pools .chains)
-      → chainAt (S .pools .chains) i .firstStep + chainAt (S .pools .chains) i .steps ≤ whole 4 (S .pools .steps)
-  pub cases-within : (i : ℕ) → i < whole 5 (S .pools .switches)
-      → switchAt (S .pools .switches) i .firstCase + switchAt (S .pools .switches) i .cases ≤ whole 2 (S .pools .cases)
-  pub ranges-within : (i : ℕ) → i < whole 5 (S .pools .switches)
-      → switchAt (S .pools .switches) i .firstRange + switchAt (S .pools .switches) i .ranges ≤ length (S .pools .ranges)
+  pub chain-there : (p : ℕ) → Start widthOf (S .code) p → tagOf S p ≡ CHAIN → indexAt (S .code) p < chainsIn (S .pools .chains)
+  pub switch-there : (p : ℕ) → Start widthOf (S .code) p → tagOf S p ≡ SWITCH → indexAt (S .code) p < switchesIn (S .pools .switches)
+  pub chains-within : ChainsWithin (S .pools .chains) (S .pools .steps)
+  pub switches-within : SwitchesWithin (S .pools .switches) (S .pools .cases) (S .pools .ranges)
   pub in-order : span .entry ≤ span .end
   pub in-code : span .end ≤ length (S .code)
   pub aligned : among (span .entry) (starts (S .code)) || eqb (span .entry) (length (S .code)) ≡ true

@@ -11,7 +11,7 @@ use Rattle.code.specs.Layout.{among, tagAt, indexAt}
 use Rattle.code.specs.Tags.{LOAD-NAMED, CHAIN, SWITCH, CALL, CALL-THIS-REF, CALL-OP, CALL-LOCAL-REF, CALL-NAMED-REF}
 use Rattle.code.specs.Told.{Told, found, without}
 use Rattle.code.specs.Width.{widthOf, widthAt, toldAt}
-use Rattle.pools.specs.Pools.{whole, chainAt, switchAt}
+use Rattle.pools.specs.Pools.{chainAt, switchAt, chainWords, switchWords, chainsIn, stepsIn, switchesIn, casesIn}
 use Rattle.rules.proofs.Operands.{index-there}
 use Rattle.rules.specs.Asks.{qualifiable}
 use Rattle.guards.specs.Guards.{hasWidth, hasName, hasChain, hasSwitch}
@@ -72,16 +72,20 @@ module _ (code : List ℕ) (at : ℕ) where
     no-chain-asked n = rw (ne-eqb (tagAt code at) CHAIN n)
 
     module _ (e : tagAt code at ≡ CHAIN) (i : ℕ) (q : i ≡ indexAt code at) where
+      abbrev stepsLie : Bool
+      stepsLie = leb (getD chains (i * chainWords + 5) 0 + getD chains (i * chainWords + 6) 0) (stepsIn steps)
+
       asked-chain : hasChain code at chains steps
-          ≡ (ltb i (whole 7 chains) && leb (getD chains (i * 7 + 5) 0 + getD chains (i * 7 + 6) 0) (whole 4 steps))
+          ≡ (ltb i (chainsIn chains) && stepsLie)
       unfolding hasChain chainAt
       asked-chain = rw (eq-eqb (tagAt code at) CHAIN e, q)
 
-      pub chain-past : whole 7 chains ≤ i → false ≡ hasChain code at chains steps
-      chain-past l = sym (asked-chain ∙ rw (le-ltb i (whole 7 chains) l) refl)
+      pub chain-past : chainsIn chains ≤ i → false ≡ hasChain code at chains steps
+      chain-past l = sym (asked-chain ∙ rw (le-ltb i (chainsIn chains) l) refl)
 
-      pub chain-within : i < whole 7 chains → leb (getD chains (i * 7 + 5) 0 + getD chains (i * 7 + 6) 0) (whole 4 steps) ≡ hasChain code at chains steps
-      chain-within l = sym (asked-chain ∙ rw (lt-ltb i (whole 7 chains) l) refl)
+      pub chain-within : i < chainsIn chains
+          → stepsLie ≡ hasChain code at chains steps
+      chain-within l = sym (asked-chain ∙ rw (lt-ltb i (chainsIn chains) l) refl)
 
   -- ---- a switch
 
@@ -91,21 +95,22 @@ module _ (code : List ℕ) (at : ℕ) where
     no-switch-asked n = rw (ne-eqb (tagAt code at) SWITCH n)
 
     module _ (e : tagAt code at ≡ SWITCH) (i : ℕ) (q : i ≡ indexAt code at) where
-      abbrev casesIn : Bool
-      casesIn = leb (getD switches (i * 5) 0 + getD switches (i * 5 + 1) 0) (whole 2 cases)
+      abbrev casesLie : Bool
+      casesLie = leb (getD switches (i * switchWords) 0 + getD switches (i * switchWords + 1) 0) (casesIn cases)
 
-      abbrev rangesIn : Bool
-      rangesIn = leb (getD switches (i * 5 + 2) 0 + getD switches (i * 5 + 3) 0) (length ranges)
+      abbrev rangesLie : Bool
+      rangesLie = leb (getD switches (i * switchWords + 2) 0 + getD switches (i * switchWords + 3) 0) (length ranges)
 
-      asked-switch : hasSwitch code at switches cases ranges ≡ (ltb i (whole 5 switches) && (casesIn && rangesIn))
+      asked-switch : hasSwitch code at switches cases ranges ≡ (ltb i (switchesIn switches) && (casesLie && rangesLie))
       unfolding hasSwitch switchAt
       asked-switch = rw (eq-eqb (tagAt code at) SWITCH e, q)
 
-      pub switch-past : whole 5 switches ≤ i → false ≡ hasSwitch code at switches cases ranges
-      switch-past l = sym (asked-switch ∙ rw (le-ltb i (whole 5 switches) l) refl)
+      pub switch-past : switchesIn switches ≤ i → false ≡ hasSwitch code at switches cases ranges
+      switch-past l = sym (asked-switch ∙ rw (le-ltb i (switchesIn switches) l) refl)
 
-      pub cases-past : i < whole 5 switches → casesIn ≡ false → false ≡ hasSwitch code at switches cases ranges
-      cases-past l f = sym (asked-switch ∙ rw (lt-ltb i (whole 5 switches) l, f) refl)
+      pub cases-past : i < switchesIn switches → casesLie ≡ false → false ≡ hasSwitch code at switches cases ranges
+      cases-past l f = sym (asked-switch ∙ rw (lt-ltb i (switchesIn switches) l, f) refl)
 
-      pub switch-within : i < whole 5 switches → casesIn ≡ true → rangesIn ≡ hasSwitch code at switches cases ranges
-      switch-within l f = sym (asked-switch ∙ rw (lt-ltb i (whole 5 switches) l, f) refl)
+      pub switch-within : i < switchesIn switches → casesLie ≡ true
+          → rangesLie ≡ hasSwitch code at switches cases ranges
+      switch-within l f = sym (asked-switch ∙ rw (lt-ltb i (switchesIn switches) l, f) refl)

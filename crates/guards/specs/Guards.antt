@@ -8,7 +8,7 @@ use lib.ListN.{length}
 use Rattle.code.specs.Layout.{among, tagAt, indexAt}
 use Rattle.code.specs.Tags.{CHAIN, SWITCH}
 use Rattle.code.specs.Width.{widthAt}
-use Rattle.pools.specs.Pools.{Chain, Switch, whole, chainAt, switchAt}
+use Rattle.pools.specs.Pools.{Chain, Switch, chainAt, switchAt, chainsIn, stepsIn, switchesIn, casesIn}
 use Rattle.rules.specs.Asks.{qualifiable}
 
 module _ (code : List ℕ) (at : ℕ) where
@@ -22,7 +22,9 @@ module _ (code : List ℕ) (at : ℕ) where
   -- the chain that a CHAIN names, and its steps
   unfoldable pub hasChain : (chains steps : List ℕ) → Bool
   hasChain chains steps =
-      cond (eqb (tagAt code at) CHAIN) (ltb (indexAt code at) (whole 7 chains) && leb (c .firstStep + c .steps) (whole 4 steps)) true
+      cond (eqb (tagAt code at) CHAIN)
+      (ltb (indexAt code at) (chainsIn chains) && leb (c .firstStep + c .steps) (stepsIn steps))
+      true
     where
       c : Chain
       c = chainAt chains (indexAt code at)
@@ -31,7 +33,8 @@ module _ (code : List ℕ) (at : ℕ) where
   unfoldable pub hasSwitch : (switches cases ranges : List ℕ) → Bool
   hasSwitch switches cases ranges =
       cond (eqb (tagAt code at) SWITCH)
-      (ltb (indexAt code at) (whole 5 switches) && (leb (s .firstCase + s .cases) (whole 2 cases) && leb (s .firstRange + s .ranges) (length ranges)))
+      (ltb (indexAt code at) (switchesIn switches)
+      && (leb (s .firstCase + s .cases) (casesIn cases) && leb (s .firstRange + s .ranges) (length ranges)))
       true
     where
       s : Switch

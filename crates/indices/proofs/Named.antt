@@ -11,7 +11,7 @@ use Rattle.code.specs.Layout.{Index, indices, layout, among, indicesFrom, tagAt
 use Rattle.code.specs.Tags.{LOAD-NAMED, CALL, CALL-OP, CALL-LOCAL-REF, CALL-NAMED-REF, CALL-THIS-REF, CHAIN, SWITCH, CUSTOM-SYNTAX}
 use Rattle.code.specs.Width.{widthOf, widthAt}
 use Rattle.code.proofs.Widths.{width-there}
-use Rattle.pools.specs.Pools.{Pools, chainAt, switchAt, whole}
+use Rattle.pools.specs.Pools.{Pools, chainAt, switchAt, chainsIn, switchesIn}
 use Rattle.indices.specs.Indices.{sizeOf, Tables, refAt, inCode, chainRefs, switchRefs, inRecord, fine, firstBad, Sound, sizesOf, tablesOf, checkedAt}
 use Rattle.indices.specs.declared.Sizes.{Sizes}
 use Rattle.indices.proofs.Laws.{fine-first, fine-below}
@@ -136,10 +136,10 @@ module _ (s : Sizes) (code : List ℕ) (at : ℕ) (own : firstBad (sizeOf s) (in
 
   -- what the code asks of the record
   module _ (t : Tables) (sound : Sound s t) (i : ℕ) (same : i ≡ indexAt code at) where
-    pub chain-entry : tagAt code at ≡ CHAIN → i < whole 7 (t .chains)
+    pub chain-entry : tagAt code at ≡ CHAIN → i < chainsIn (t .chains)
     chain-entry has = omega (arith, chain-below has, sound .chains-counted)
 
-    pub switch-entry : tagAt code at ≡ SWITCH → i < whole 5 (t .switches)
+    pub switch-entry : tagAt code at ≡ SWITCH → i < switchesIn (t .switches)
     switch-entry has = omega (arith, switch-below has, sound .switches-counted)
 
 -- ---- where nothing is bad in the pools
@@ -149,11 +149,11 @@ module _ (p : Pools) (code : List ℕ) (at : ℕ) (ok : checkedAt p code at ≡ 
   own = fine-first (sizeOf (sizesOf p)) (inRecord (tablesOf p) code at) (inCode code at) ok
 
   -- a chain that an instruction names is there
-  pub chain-there : tagAt code at ≡ CHAIN → indexAt code at < whole 7 (p .chains)
+  pub chain-there : tagAt code at ≡ CHAIN → indexAt code at < chainsIn (p .chains)
   chain-there = chain-below (sizesOf p) code at own
 
   -- and so is a switch
-  pub switch-there : tagAt code at ≡ SWITCH → indexAt code at < whole 5 (p .switches)
+  pub switch-there : tagAt code at ≡ SWITCH → indexAt code at < switchesIn (p .switches)
   switch-there = switch-below (sizesOf p) code at own
 
   -- and a name by whose flag its rights go

@@ -11,7 +11,8 @@ use lib.ListN.{length}
 use Rattle.code.specs.Layout.{Index, indices, tagAt, indexAt, constants, names, operators, opAssignments, chains, switches}
 use Rattle.code.specs.Numbers.{little}
 use Rattle.code.specs.Tags.{CHAIN, SWITCH}
-use Rattle.pools.specs.Pools.{Pools, Chain, Step, Switch, Case, chainAt, switchAt, stepsOf, casesOf, whole}
+use Rattle.pools.specs.Good.{EachSwitch, CasesWithin, ChainsWithin}
+use Rattle.pools.specs.Pools.{Pools, Chain, Step, Switch, Case, chainAt, switchAt, stepsOf, casesOf, chainsIn, switchesIn, casesIn}
 use Rattle.indices.specs.declared.Checked.{Checked}
 use Rattle.indices.specs.declared.Checked.the-variants.{Fine, Bad}
 use Rattle.indices.specs.declared.Sizes.{Sizes}
@@ -114,19 +115,12 @@ firstBad size (r ∷ rs) = cond (ltb (r .index) (size (r .pool))) (firstBad size
 
 -- ---- what has to hold of the tables
 
--- the steps of a chain, and the cases of a switch, lie within their table
-abbrev pub StepsWithin : (chains steps : List ℕ) (chain : ℕ) → Type 0
-StepsWithin chains steps chain = chainAt chains chain .firstStep + chainAt chains chain .steps ≤ whole 4 steps
-
-abbrev pub CasesWithin : (switches cases : List ℕ) (switch : ℕ) → Type 0
-CasesWithin switches cases switch = switchAt switches switch .firstCase + switchAt switches switch .cases ≤ whole 2 cases
-
 -- the sizes are those of the tables, and every chain's steps and every switch's cases lie within theirs
 pub record Sound (sizes : Sizes) (t : Tables) : Type 0 where
-  pub chains-counted : sizes .chains ≡ whole 7 (t .chains)
-  pub switches-counted : sizes .switches ≡ whole 5 (t .switches)
-  pub steps-within : (chain : ℕ) → chain < whole 7 (t .chains) → StepsWithin (t .chains) (t .steps) chain
-  pub cases-within : (switch : ℕ) → switch < whole 5 (t .switches) → CasesWithin (t .switches) (t .cases) switch
+  pub chains-counted : sizes .chains ≡ chainsIn (t .chains)
+  pub switches-counted : sizes .switches ≡ switchesIn (t .switches)
+  pub chains-within : ChainsWithin (t .chains) (t .steps)
+  pub cases-within : EachSwitch (CasesWithin (casesIn (t .cases))) (t .switches)
 
 -- ---- of the pools
 
@@ -137,8 +131,8 @@ sizesOf p = record {
   names = length (p .names);
   tokens = p .tokens;
   «op_assignments» = p .opAssignments;
-  chains = whole 7 (p .chains);
-  switches = whole 5 (p .switches);
+  chains = chainsIn (p .chains);
+  switches = switchesIn (p .switches);
 }
 
 abbrev pub tablesOf : Pools → Tables

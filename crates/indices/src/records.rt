@@ -3,8 +3,9 @@ ghost use mathlib.Core.Path.{_≡_};
 ghost use mathlib.Core.List.{[], _∷_, flatMap};
 ghost use Prim.Native.Nat.{_+_, _<_, _≤_};
 ghost use Rattle.code.specs.Layout.{names};
-ghost use Rattle.pools.specs.Pools.{caseAt, chainAt, entries, stepAt, switchAt, whole};
-ghost use Rattle.indices.specs.Indices.{CasesWithin, StepsWithin, caseRefs, chainRefs, firstBad, into, numbered, rootRefs, sizeOf, stepRefs, switchRefs, tailRefs};
+ghost use Rattle.pools.specs.Good.{CasesWithin, StepsWithin};
+ghost use Rattle.pools.specs.Pools.{caseAt, casesIn, chainAt, chainsIn, entries, stepAt, stepsIn, switchAt, switchesIn};
+ghost use Rattle.indices.specs.Indices.{caseRefs, chainRefs, firstBad, into, numbered, rootRefs, sizeOf, stepRefs, switchRefs, tailRefs};
 use super::Checked;
 use super::Sizes;
 use super::bounded;
@@ -93,7 +94,7 @@ fn check_property(name: u32, getter: u32, setter: u32, sizes: Sizes) -> Checked
 
 // The names of a step, as its kind has it.
 fn check_step(steps: &[u32], step: usize, sizes: Sizes) -> Checked
-    requires { ⌜ step < whole 4 (now steps) ⌝ }
+    requires { ⌜ step < stepsIn (now steps) ⌝ }
     ensures { λ r. ⌜ numbered r ≡ firstBad (sizeOf sizes) (stepRefs (stepAt (now (steps .entry)) step)) ⌝ }
 {
     let word = step * STEP_WORDS;
@@ -108,7 +109,7 @@ fn check_step(steps: &[u32], step: usize, sizes: Sizes) -> Checked
 
 // So many steps from a first one on, up to the first bad reference.
 fn check_steps(steps: &[u32], first: u32, count: u32, sizes: Sizes) -> Checked
-    requires { ⌜ first + count ≤ whole 4 (now steps) ⌝ }
+    requires { ⌜ first + count ≤ stepsIn (now steps) ⌝ }
     ensures { λ r. ⌜ numbered r ≡ firstBad (sizeOf sizes)
         (flatMap stepRefs (entries (stepAt (now (steps .entry))) first count)) ⌝ }
 {
@@ -125,8 +126,8 @@ fn check_steps(steps: &[u32], first: u32, count: u32, sizes: Sizes) -> Checked
 // A chain's references: its root's, its steps' and its tail's, up to the first bad one. For a caller who knows that the chain
 // is there.
 pub fn check_chain_indices(chains: &[u32], chain: usize, steps: &[u32], sizes: Sizes) -> Checked
-    requires { ⌜ chain < whole 7 (now chains) ⌝ }
-    requires { ⌜ StepsWithin (now chains) (now steps) chain ⌝ }
+    requires { ⌜ chain < chainsIn (now chains) ⌝ }
+    requires { ⌜ StepsWithin (stepsIn (now steps)) (chainAt (now chains) chain) ⌝ }
     ensures { λ r. ⌜ numbered r ≡ firstBad (sizeOf sizes)
         (chainRefs (now (steps .entry)) (chainAt (now (chains .entry)) chain)) ⌝ }
 {
@@ -149,7 +150,7 @@ pub fn check_chain_indices(chains: &[u32], chain: usize, steps: &[u32], sizes: S
 
 // The constant of a case.
 fn check_case(cases: &[u32], case: usize, sizes: Sizes) -> Checked
-    requires { ⌜ case < whole 2 (now cases) ⌝ }
+    requires { ⌜ case < casesIn (now cases) ⌝ }
     ensures { λ r. ⌜ numbered r ≡ firstBad (sizeOf sizes) (caseRefs (caseAt (now (cases .entry)) case)) ⌝ }
 {
     bounded(
@@ -161,7 +162,7 @@ fn check_case(cases: &[u32], case: usize, sizes: Sizes) -> Checked
 
 // So many cases from a first one on, up to the first bad reference.
 fn check_cases(cases: &[u32], first: u32, count: u32, sizes: Sizes) -> Checked
-    requires { ⌜ first + count ≤ whole 2 (now cases) ⌝ }
+    requires { ⌜ first + count ≤ casesIn (now cases) ⌝ }
     ensures { λ r. ⌜ numbered r ≡ firstBad (sizeOf sizes)
         (flatMap caseRefs (entries (caseAt (now (cases .entry))) first count)) ⌝ }
 {
@@ -177,8 +178,8 @@ fn check_cases(cases: &[u32], first: u32, count: u32, sizes: Sizes) -> Checked
 
 // A switch's references, which are its cases'. For a caller who knows that the switch is there.
 pub fn check_switch_indices(switches: &[u32], switch: usize, cases: &[u32], sizes: Sizes) -> Checked
-    requires { ⌜ switch < whole 5 (now switches) ⌝ }
-    requires { ⌜ CasesWithin (now switches) (now cases) switch ⌝ }
+    requires { ⌜ switch < switchesIn (now switches) ⌝ }
+    requires { ⌜ CasesWithin (casesIn (now cases)) (switchAt (now switches) switch) ⌝ }
     ensures { λ r. ⌜ numbered r ≡ firstBad (sizeOf sizes)
         (switchRefs (now (cases .entry)) (switchAt (now (switches .entry)) switch)) ⌝ }
 {

@@ -15,6 +15,7 @@ use Rattle.judging.specs.declared.Judgement.the-variants.{Passed, Refuse
 use Rattle.judging.specs.Spans.{chunkAt}
 use Rattle.judging.specs.Spans.{spansOf}
 use Rattle.judging.specs.Judging.{judgeAll, Judges, andThen}
+use Rattle.verify.specs.Stages.{mostReached, mostTaken}
 
 -- ---- spans
 
@@ -95,8 +96,8 @@ module _ (S : Script) (records work : ℕ) where
       pub long : length heights ≡ length before
       pub records-zero : r ≡ replicate records 0
       pub work-zero : w ≡ replicate work 0
-      pub few-reached : reached ≤ at * 2 ^ 17
-      pub few-taken : taken ≤ at * 2 ^ 40
+      pub few-reached : reached ≤ at * mostReached
+      pub few-taken : taken ≤ at * mostTaken
 
     pub judging-first : (r w : List ℕ) → r ≡ replicate records 0 → w ≡ replicate work 0 → Judging before r w 0 0 0
     judging-first r w e f =
@@ -124,7 +125,7 @@ module _ (S : Script) (records work : ℕ) where
 
         pub judging-passes : {height more-reached more-taken : ℕ}
             → judgeChunk S span records work ≡ passes height more-reached more-taken
-            → more-reached ≤ 2 ^ 17 → more-taken ≤ 2 ^ 40 → {heights′ r′ w′ : List ℕ} → heights′ ≡ set heights (first + at) height
+            → more-reached ≤ mostReached → more-taken ≤ mostTaken → {heights′ r′ w′ : List ℕ} → heights′ ≡ set heights (first + at) height
             → r′ ≡ replicate records 0 → w′ ≡ replicate work 0
             → Judging heights′ r′ w′ (at + 1) (reached + more-reached) (taken + more-taken)
         judging-passes {height} {more-reached} {more-taken} e few-r few-t stored z v =

@@ -22,6 +22,7 @@ use Rattle.opening.specs.Records.{keys, laid}
 use Rattle.opening.proofs.Kept.{few-targets}
 use Rattle.opening.proofs.Targets.{keys-rise, few-keys}
 use Rattle.order.specs.Order.{Rising}
+use Rattle.pools.specs.Sizes.{maxCode, maxTargets}
 use Rattle.answer.specs.declared.Answer.{Answer}
 use Rattle.answer.specs.declared.Answer.the-variants.{StackExceedsDeclared}
 use Rattle.answer.specs.declared.Outcome.{Outcome}
@@ -78,16 +79,16 @@ zero-words words c = cleared-all words 0 (omega arith) (λ i h. c .clear i (omeg
 
 -- ---- how many edges there can be
 
-sum-most : (f : ℕ → ℕ) (xs : List ℕ) → ((x : ℕ) → x ∈ xs → f x ≤ 131074) → sumOf f xs ≤ length xs * 131074
+sum-most : (f : ℕ → ℕ) (xs : List ℕ) → ((x : ℕ) → x ∈ xs → f x ≤ maxTargets + 1) → sumOf f xs ≤ length xs * (maxTargets + 1)
 unfolding sumOf
 sum-most f [] h = omega arith
 sum-most f (x ∷ xs) h = let rest = sum-most f xs (λ y m. h y (there m)) in omega (arith, h x (here refl))
 
-sum-none : (f : ℕ → ℕ) → sumOf f [] ≤ 65536 * 131074
+sum-none : (f : ℕ → ℕ) → sumOf f [] ≤ maxCode * (maxTargets + 1)
 unfolding sumOf
 sum-none f = omega arith
 
-pub few-edges : (S : Script) → Ready S → (span : Span) {words rooms : ℕ} → BeforeWalk S span words rooms → E S span ≤ 65536 * 131074
+pub few-edges : (S : Script) → Ready S → (span : Span) {words rooms : ℕ} → BeforeWalk S span words rooms → E S span ≤ maxCode * (maxTargets + 1)
 unfolding E degree
 few-edges S R span B = go (decLt (span .entry) (span .end))
   where
@@ -98,7 +99,7 @@ few-edges S R span B = go (decLt (span .entry) (span .end))
     L : Listable (S .code) (S .pools .switches) (S .pools .cases) (S .pools .ranges)
     L = R .listable
 
-    go : Dec (span .entry < span .end) → sumOf (degree S) (chunkStarts S span) ≤ 65536 * 131074
+    go : Dec (span .entry < span .end) → sumOf (degree S) (chunkStarts S span) ≤ maxCode * (maxTargets + 1)
     go (yes h) =
         let start = inside S span (entry-starts S span B h) .start in
         let most = sum-most (degree S) (chunkStarts S span) (λ p m.
@@ -153,9 +154,8 @@ module _ (S : Script) (R : Ready S) (marks : List ℕ) (M : Marked marks (S .cod
       decoded = R .listable .decoded;
       chain-there = λ p s has. R .chain-there p s .chain has .entry;
       switch-there = λ p s has. R .listable .switch-there p s .switch has .entry;
-      steps-within = R .steps-within;
-      cases-within = R .cases-within;
-      ranges-within = R .ranges-within;
+      chains-within = R .chains-within;
+      switches-within = R .switches-within;
       in-order = O .in-code .in-order;
       in-code = O .in-code .in-code;
       aligned = O .in-code .aligned;

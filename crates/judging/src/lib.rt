@@ -4,6 +4,7 @@ ghost use mathlib.Core.Path.{_≡_};
 ghost use Prim.Native.Nat.{_+_, _≤_, _<_, min};
 ghost use lib.ListN.{length, replicate};
 ghost use Rattle.opening.specs.Ready.{Ready, Marked};
+ghost use Rattle.pools.specs.Sizes.{maxChunks};
 ghost use Rattle.rules.specs.Script.{script};
 ghost use Rattle.judging.specs.Spans.{spansOf};
 ghost use Rattle.judging.specs.Judging.{Judges};
@@ -53,9 +54,9 @@ pub fn judge_spans(
     requires { ⌜ Marked (now marks) (now code) ⌝ }
     requires { ⌜ now records ≡ replicate (length (now records)) 0 ⌝ }
     requires { ⌜ now work ≡ replicate (length (now work)) 0 ⌝ }
-    requires { ⌜ length (spansOf (now entries) (now ends) (now declared)) ≤ 1024 ⌝ }
+    requires { ⌜ length (spansOf (now entries) (now ends) (now declared)) ≤ maxChunks ⌝ }
     requires { ⌜ first + length (spansOf (now entries) (now ends) (now declared)) ≤ length (now heights) ⌝ }
-    requires { ⌜ first ≤ 1024 ⌝ }
+    requires { ⌜ first ≤ maxChunks ⌝ }
     ensures { λ r. ⌜ Judges
         (script rights (now (names .entry)) (now (chains .entry)) (now (steps .entry)) (now (switches .entry)) (now (cases .entry))
         (now (ranges .entry)) (now (code .entry)))
@@ -171,7 +172,7 @@ pub fn verify_span(
     requires { ⌜ now records ≡ replicate (length (now records)) 0 ⌝ }
     requires { ⌜ now work ≡ replicate (length (now work)) 0 ⌝ }
     requires { ⌜ number < length (now heights) ⌝ }
-    requires { ⌜ number ≤ 1024 ⌝ }
+    requires { ⌜ number ≤ maxChunks ⌝ }
     ensures { λ r. ⌜ Judges
         (script rights (now (names .entry)) (now (chains .entry)) (now (steps .entry)) (now (switches .entry)) (now (cases .entry))
         (now (ranges .entry)) (now (code .entry)))

@@ -17,6 +17,8 @@ use Rattle.listing.specs.Listing.{Start, starts, startsBefore}
 use Rattle.listing.proofs.Before.{before-on, before-stop, cut}
 use Rattle.listing.proofs.Starts.{listed-start, start-wide, start-next}
 use Rattle.pools.specs.Pools.{switchAt}
+use Rattle.pools.specs.Sizes.{maxCode, maxTargets}
+use Rattle.pools.proofs.Most.{room-small}
 use Rattle.rules.specs.Edges.{jumping, armsOf, targetsOf, falls}
 use Rattle.machine.specs.Lists.{sumOf}
 use Rattle.rules.proofs.Arms.{arms-length}
@@ -45,7 +47,7 @@ module _ (code switches cases ranges : List ℕ) where
   edgesIn ps = sumOf (λ p. length (targetsAt code switches cases ranges p) + fallAt code switches cases ranges p) ps
 
   module _ (entry end words : ℕ) where
-    -- up to a place. The last two keep the sums far below 2^64: an instruction has at least a byte, and fewer than 2^20 edges.
+    -- up to a place. The last two keep the sums far below 2^64: an instruction has at least a byte.
     pub record Kept (records : List ℕ) (listed : Listed) (at : ℕ) : Type 0 where
       pub front : List ℕ
       pub holds : records ≡ fronted words front
@@ -56,14 +58,14 @@ module _ (code switches cases ranges : List ℕ) where
       pub edges : listed .edges + edgesIn (from end at) ≡ edgesIn (from end entry)
       pub on-start : at < end → Start widthOf code at
       pub in-code : at ≤ length code
-      pub few-targets : listed .targets ≤ at * 1048576
-      pub few-edges : listed .edges ≤ at * 1048576
+      pub few-targets : listed .targets ≤ at * maxTargets
+      pub few-edges : listed .edges ≤ at * (maxTargets + 1)
 
     pub kept-length : {records : List ℕ} {listed : Listed} {at : ℕ} → Kept records listed at → length records ≡ words
     kept-length k = ap length (k .holds) ∙ length-fronted words (k .front) (k .fits)
 
-    pub all-kept : {lent : ℕ} {records : List ℕ} {listed : Listed} {at : ℕ} → length code ≤ 65536 → words ≡ lent → Kept records listed at → end ≤ at
-        → AllListed code switches cases ranges entry end lent listed records
+    pub all-kept : {lent : ℕ} {records : List ℕ} {listed : Listed} {at : ℕ} → length code ≤ maxCode → words ≡ lent
+        → Kept records listed at → end ≤ at → AllListed code switches cases ranges entry end lent listed records
     unfolding sumOf keepAll
     all-kept {at = at} small same k h = rw (← same) (record {
       targets-counted = omega (arith, (rw none at (k .targets)));
@@ -71,8 +73,8 @@ module _ (code switches cases ranges : List ℕ) where
       stored = k .stored ∙ ap length done;
       kept = k .holds ∙ ap (fronted words) done;
       within = omega (arith, k .stored, k .fits);
-      few-targets = omega (arith, k .few-targets, k .in-code);
-      few-edges = omega (arith, k .few-edges, k .in-code);
+      few-targets = omega (arith, k .few-targets, k .in-code, room-small);
+      few-edges = omega (arith, k .few-edges, k .in-code, room-small);
     })
       where
         none : from end at ≡ []
@@ -82,19 +84,19 @@ module _ (code switches cases ranges : List ℕ) where
         done = (rw none at (k .rest))
 
   module _ (L : Listable code switches cases ranges) where
-    pub few-targets : {p : ℕ} → Start widthOf code p → length (targetsAt code switches cases ranges p) ≤ 131073
+    pub few-targets : {p : ℕ} → Start widthOf code p → length (targetsAt code switches cases ranges p) ≤ maxTargets
     unfolding targetsOf
     few-targets {p} s = rw length-cond (go (among (tagAt code p) jumping) (eqb (tagAt code p) SWITCH) refl)
       where
         arms : List ℕ
         arms = armsOf cases ranges (switchAt switches (indexAt code p))
 
-        few-arms : tagAt code p ≡ SWITCH → length arms ≤ 131073
+        few-arms : tagAt code p ≡ SWITCH → length arms ≤ maxTargets
         few-arms e =
             let w = L .switch-there p s .switch e in
             omega (arith, arms-length cases ranges (switchAt switches (indexAt code p)), w .cases-within, w .ranges-within, L .few-cases, L .few-ranges)
 
-        go : (a b : Bool) → eqb (tagAt code p) SWITCH ≡ b → cond a 1 (cond b (length arms) 0) ≤ 131073
+        go : (a b : Bool) → eqb (tagAt code p) SWITCH ≡ b → cond a 1 (cond b (length arms) 0) ≤ maxTargets
         go true b e = omega arith
         go false true e = few-arms (eqb-true (tagAt code p) SWITCH e)
         go false false e = omega arith

@@ -3,7 +3,7 @@
 use mathlib.Core.Bool.{Bool, cond}
 use mathlib.Core.List.{List, [], _∷_, _++_}
 use mathlib.Core.Path.{_≡_}
-use Prim.Native.Nat.{ℕ, _+_, _-_, _^_, _≤_}
+use Prim.Native.Nat.{ℕ, _+_, _-_, _^_, _≤_, _<_}
 use lib.Dec.{leb}
 use lib.ListN.{length, replicate}
 use lib.Seq.{sets}
@@ -56,5 +56,5 @@ module _ (code switches cases ranges : List ℕ) where
     pub stored : r .stored ≡ length (keepAll words (opening words entry) (startsBefore widthOf code end entry))
     pub kept : records′ ≡ fronted words (keepAll words (opening words entry) (startsBefore widthOf code end entry))
     pub within : r .stored ≤ words
-    pub few-targets : r .targets ≤ 2 ^ 36
-    pub few-edges : r .edges ≤ 2 ^ 36
+    pub few-targets : r .targets < 2 ^ 40
+    pub few-edges : r .edges < 2 ^ 40

@@ -182,8 +182,8 @@ fn check_span(code: &[u8], entry: u32, end: u32, marks: &[u64]) -> Outcome
 // Kind 3, of so many targets and edges: are the lent words of records enough, and then those of work? What is needed can pass
 // 32 bits.
 fn check_room(targets: u64, edges: u64, records: usize, work: usize) -> Outcome
-    requires { ⌜ targets ≤ 2 ^ 36 ⌝ }
-    requires { ⌜ edges ≤ 2 ^ 36 ⌝ }
+    requires { ⌜ targets < 2 ^ 40 ⌝ }
+    requires { ⌜ edges < 2 ^ 40 ⌝ }
     ensures { λ r. ⌜ told r ≡ roomTest targets edges records work ⌝ }
 {
     let records_needed = 4 * (1 + targets);

@@ -1,4 +1,5 @@
--- What the tests of an entry say: each part of a test in its turn, and that an entry is good exactly where none finds it bad.
+-- What the tests of an entry say: each part of a test in its turn, and that an entry is good exactly where none finds
+-- it bad.
 use mathlib.Core.Bool.{Bool, true, false, _||_, true≢false}
 use mathlib.Core.Path.{_≡_, refl, _∙_}
 use Prim.Native.Nat.{ℕ, _+_, _≤_, _<_}
@@ -60,7 +61,8 @@ module _ (cases ranges : ℕ) (s : Switch) where
   unfolding badSwitch
   cases-past e = simp e
 
-  pub by-ranges : past cases (s .firstCase) (s .cases) ≡ false → badSwitch cases ranges s ≡ past ranges (s .firstRange) (s .ranges)
+  pub by-ranges : past cases (s .firstCase) (s .cases) ≡ false
+      → badSwitch cases ranges s ≡ past ranges (s .firstRange) (s .ranges)
   unfolding badSwitch
   by-ranges e = simp e
 

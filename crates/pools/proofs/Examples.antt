@@ -1,9 +1,10 @@
--- Small tables and counts, judged by the definitions: where document 01 is easily read another way, this is the reading.
+-- Small tables and counts, judged by the definitions: where document 01 is easily read another way, this is the
+-- reading.
 use mathlib.Core.List.{List, [], _∷_}
 use mathlib.Core.Path.{_≡_, refl}
 use Prim.Native.Nat.{ℕ}
 use Rattle.pools.specs.Pools.{entries, chainAt, stepAt, switchAt}
-use Rattle.pools.specs.Sizes.{maxCode, limits, firstExceeded, tooLarge}
+use Rattle.pools.specs.Sizes.{maxCode, limits, tells, firstOver, firstExceeded}
 use Rattle.pools.specs.Tables.{ragged, badChain, badStep, badSwitch, wholeTable, firstBad}
 use Rattle.pools.specs.Told.{fine, badTable, first, firstFrom}
 use Rattle.pools.specs.declared.limits.Sizes.{Sizes}
@@ -75,9 +76,9 @@ sized n = record {
 
 -- of several limits that are exceeded the first in the order is told
 chains-before-chunks : firstExceeded (sized 65536) ≡ record { kind = 1; p = 9; q = 0 }
-unfolding firstExceeded limits firstFrom maxCode
+unfolding firstOver tells limits first maxCode
 chains-before-chunks = refl
 
-cases-before-chains : tooLarge (sized 65537) ≡ 7
-unfolding firstExceeded limits firstFrom maxCode
+cases-before-chains : firstExceeded (sized 65537) .p ≡ 7
+unfolding firstOver tells limits first maxCode
 cases-before-chains = refl

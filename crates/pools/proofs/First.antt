@@ -1,5 +1,5 @@
--- Tests in their order: what is told where one of several refuses, how a loop that takes them upward comes to it, and what
--- it says of each of them. Every loop of this crate rests on these laws.
+-- Tests in their order: what is told where one of several refuses, how a loop that takes them upward comes to it, and
+-- what it says of each of them. Every loop over the entries of a table rests on these laws.
 use mathlib.Core.Bool.{Bool, true, false, cond}
 use mathlib.Core.List.{List, _∷_}
 use mathlib.Core.Path.{_≡_, refl}
@@ -81,7 +81,9 @@ module _ (refusal : ℕ → Told) (bad : ℕ → Bool) where
   in-front from count t false p (all-good each e) =
       all-good (λ i l m. elim (ℕ-discrete i from) [ yes q ↦ rw q p | no d ↦ each i (omega arith) (omega arith) ]) e
   in-front from count t false p (one-bad j l r before e) =
-      one-bad j (omega arith) r (λ i m o. elim (ℕ-discrete i from) [ yes q ↦ rw q p | no d ↦ before i (omega arith) o ]) e
+      one-bad j (omega arith) r
+      (λ i m o. elim (ℕ-discrete i from) [ yes q ↦ rw q p | no d ↦ before i (omega arith) o ])
+      e
 
   told-from : (from count : ℕ) → From from count (firstFrom refusal from (entries bad from count))
   unfolding entries firstFrom

@@ -11,7 +11,8 @@ use Rattle.pools.specs.declared.tables.Tables.{Tables}
 use Rattle.pools.specs.declared.tables.Tables.the-variants.{Good, Bad}
 
 -- what can be read back from its numbers has no double
-read-back : {A : Type 0} (told : A → Told) (back : Told → A) → ((a : A) → back (told a) ≡ a) → (a b : A) → told a ≡ told b → a ≡ b
+read-back : {A : Type 0} (told : A → Told) (back : Told → A) → ((a : A) → back (told a) ≡ a)
+    → (a b : A) → told a ≡ told b → a ≡ b
 read-back told back same a b e = sym (same a) ∙ ap back e ∙ same b
 
 limits-back : Told → Limits

@@ -7,9 +7,12 @@ use native.Mathlib.Nat.{div-add-mod', mul-comm}
 use native.Mathlib.Omega.{arith}
 use borrow.Author.Tests.{lt-ltb, le-ltb, ltb-false}
 use lib.ListN.{length}
-use Rattle.pools.specs.Good.{Whole, AllWhole, GoodChains, GoodSteps, GoodTables}
-use Rattle.pools.specs.Pools.{whole, chainAt, stepAt, switchAt}
-use Rattle.pools.specs.Tables.{ragged, badChain, badStep, badSwitch, wholeTable, goodChains, goodSteps, goodSwitches, firstBad}
+use Rattle.pools.specs.Good.{Whole, AllWhole, GoodChains, GoodSteps, GoodTables, ChainsWithin, SwitchesWithin}
+use Rattle.pools.specs.Pools.{chainAt, stepAt, switchAt}
+use Rattle.pools.specs.Pools.{chainWords, stepWords, switchWords, caseWords}
+use Rattle.pools.specs.Pools.{whole, chainsIn, stepsIn, switchesIn, casesIn}
+use Rattle.pools.specs.Tables.{ragged, badChain, badStep, badSwitch}
+use Rattle.pools.specs.Tables.{wholeTable, goodChains, goodSteps, goodSwitches, firstBad}
 use Rattle.pools.specs.Told.{Told, fine, badTable, first}
 use Rattle.pools.proofs.Entries.{not-bad-chain, good-chain, not-bad-step, good-step, not-bad-switch, good-switch}
 use Rattle.pools.proofs.First.{passes-on, refuses-here, FirstAt, Upward, none, first-at, told-upward}
@@ -32,7 +35,25 @@ module _ (size : ℕ) (words : List ℕ) where
   pub is-whole : ragged size words ≡ false → Whole size words
   unfolding ragged
   is-whole e =
-      omega (arith, ltb-false 0 (length words % size) e, div-add-mod' (length words) size, mul-comm size (whole size words))
+      omega (
+        arith,
+        ltb-false 0 (length words % size) e,
+        div-add-mod' (length words) size,
+        mul-comm size (whole size words),
+      )
+
+-- ---- what entries name
+
+-- in good tables it lies within its table
+module _ {chains steps switches cases ranges : List ℕ} (g : GoodTables chains steps switches cases ranges) where
+  pub chains-within : ChainsWithin chains steps
+  chains-within = record { steps-within = λ i h. g .good-chains i h .within }
+
+  pub switches-within : SwitchesWithin switches cases ranges
+  switches-within = record {
+    cases-within = λ i h. g .good-switches i h .cases-within;
+    ranges-within = λ i h. g .good-switches i h .ranges-within;
+  }
 
 -- ---- the ways through the tests
 
@@ -40,41 +61,52 @@ module _ (chains steps switches cases ranges : List ℕ) where
   abbrev told : Told
   told = firstBad chains steps switches cases ranges
 
+  -- is the entry at an index of each table bad?
+  abbrev chainBad : ℕ → Bool
+  chainBad i = badChain (stepsIn steps) (chainAt chains i)
+
+  abbrev stepBad : ℕ → Bool
+  stepBad i = badStep (stepAt steps i)
+
+  abbrev switchBad : ℕ → Bool
+  switchBad i = badSwitch (casesIn cases) (length ranges) (switchAt switches i)
+
   -- what the entries of each table tell
   abbrev inChains : Told
-  inChains = goodChains chains (whole 4 steps)
+  inChains = goodChains chains (stepsIn steps)
 
   abbrev inSteps : Told
   inSteps = goodSteps steps
 
   abbrev inSwitches : Told
-  inSwitches = goodSwitches switches (whole 2 cases) (length ranges)
+  inSwitches = goodSwitches switches (casesIn cases) (length ranges)
 
   -- the first ragged table tells
-  pub ragged-chains : ragged 7 chains ≡ true → badTable 1 (whole 7 chains) ≡ told
+  pub ragged-chains : ragged chainWords chains ≡ true → badTable 1 (chainsIn chains) ≡ told
   unfolding firstBad wholeTable first
   ragged-chains e = simp e
 
-  pub ragged-steps : ragged 7 chains ≡ false → ragged 4 steps ≡ true → badTable 2 (whole 4 steps) ≡ told
+  pub ragged-steps : ragged chainWords chains ≡ false → ragged stepWords steps ≡ true
+      → badTable 2 (stepsIn steps) ≡ told
   unfolding firstBad wholeTable first
   ragged-steps c e = simp (c, e)
 
-  pub ragged-switches : ragged 7 chains ≡ false → ragged 4 steps ≡ false → ragged 5 switches ≡ true
-      → badTable 3 (whole 5 switches) ≡ told
+  pub ragged-switches : ragged chainWords chains ≡ false → ragged stepWords steps ≡ false
+      → ragged switchWords switches ≡ true → badTable 3 (switchesIn switches) ≡ told
   unfolding firstBad wholeTable first
   ragged-switches c s e = simp (c, s, e)
 
-  pub ragged-cases : ragged 7 chains ≡ false → ragged 4 steps ≡ false → ragged 5 switches ≡ false → ragged 2 cases ≡ true
-      → badTable 4 (whole 2 cases) ≡ told
+  pub ragged-cases : ragged chainWords chains ≡ false → ragged stepWords steps ≡ false
+      → ragged switchWords switches ≡ false → ragged caseWords cases ≡ true → badTable 4 (casesIn cases) ≡ told
   unfolding firstBad wholeTable first
   ragged-cases c s w e = simp (c, s, w, e)
 
   -- past the four tests
   pub record NoneRagged : Type 0 where
-    pub chains-whole : ragged 7 chains ≡ false
-    pub steps-whole : ragged 4 steps ≡ false
-    pub switches-whole : ragged 5 switches ≡ false
-    pub cases-whole : ragged 2 cases ≡ false
+    pub chains-whole : ragged chainWords chains ≡ false
+    pub steps-whole : ragged stepWords steps ≡ false
+    pub switches-whole : ragged switchWords switches ≡ false
+    pub cases-whole : ragged caseWords cases ≡ false
 
   -- where none is ragged the entries tell
   by-entries : NoneRagged → told ≡ first (inChains ∷ inSteps ∷ inSwitches ∷ [])
@@ -87,15 +119,16 @@ module _ (chains steps switches cases ranges : List ℕ) where
 
   pub in-steps : NoneRagged → fine ≡ inChains → {t : Told} → t ≡ inSteps → 0 < t .kind → t ≡ told
   in-steps n c e h =
-      e ∙ sym (by-entries n ∙ passes-on inChains _ (ap (λ (t : Told). t .kind) (sym c)) ∙ refuses-here inSteps _ (rw e at h))
+      e
+      ∙ sym (by-entries n ∙ passes-on inChains _ (ap (λ (t : Told). t .kind) (sym c))
+      ∙ refuses-here inSteps _ (rw e at h))
 
   -- the last of the entries tell for themselves
   by-switches : first (inSwitches ∷ []) ≡ inSwitches
   unfolding first
-  by-switches = go (told-upward (badTable 3) _ (whole 5 switches))
+  by-switches = go (told-upward (badTable 3) _ (switchesIn switches))
     where
-      go : {t : Told} → Upward (badTable 3) (λ i. badSwitch (whole 2 cases) (length ranges) (switchAt switches i)) (whole 5 switches) t
-          → first (t ∷ []) ≡ t
+      go : {t : Told} → Upward (badTable 3) switchBad (switchesIn switches) t → first (t ∷ []) ≡ t
       go (none each e) = rw e
       go (first-at i at e) = rw e
 
@@ -106,19 +139,21 @@ module _ (chains steps switches cases ranges : List ℕ) where
 
   -- ---- what they say of the tables
 
-  -- this entry of this table is the first that is bad: all that stands before it in the order is good. Of a ragged table
-  -- the entry is the one that is cut off
+  -- this entry of this table is the first that is bad: all that stands before it in the order is good. Of a ragged
+  -- table the entry is the one that is cut off
   pub data FirstIs : (table entry : ℕ) → Type 0 where
-    ragged-chain : ragged 7 chains ≡ true → FirstIs 1 (whole 7 chains)
-    ragged-step : Whole 7 chains → ragged 4 steps ≡ true → FirstIs 2 (whole 4 steps)
-    ragged-switch : Whole 7 chains → Whole 4 steps → ragged 5 switches ≡ true → FirstIs 3 (whole 5 switches)
-    ragged-case : Whole 7 chains → Whole 4 steps → Whole 5 switches → ragged 2 cases ≡ true → FirstIs 4 (whole 2 cases)
+    ragged-chain : ragged chainWords chains ≡ true → FirstIs 1 (chainsIn chains)
+    ragged-step : Whole chainWords chains → ragged stepWords steps ≡ true → FirstIs 2 (stepsIn steps)
+    ragged-switch : Whole chainWords chains → Whole stepWords steps → ragged switchWords switches ≡ true
+        → FirstIs 3 (switchesIn switches)
+    ragged-case : Whole chainWords chains → Whole stepWords steps → Whole switchWords switches
+        → ragged caseWords cases ≡ true → FirstIs 4 (casesIn cases)
     bad-chain : {i : ℕ} → AllWhole chains steps switches cases
-        → FirstAt (λ k. badChain (whole 4 steps) (chainAt chains k)) (whole 7 chains) i → FirstIs 1 i
+        → FirstAt chainBad (chainsIn chains) i → FirstIs 1 i
     bad-step : {i : ℕ} → AllWhole chains steps switches cases → GoodChains chains steps
-        → FirstAt (λ k. badStep (stepAt steps k)) (whole 4 steps) i → FirstIs 2 i
+        → FirstAt stepBad (stepsIn steps) i → FirstIs 2 i
     bad-switch : {i : ℕ} → AllWhole chains steps switches cases → GoodChains chains steps → GoodSteps steps
-        → FirstAt (λ k. badSwitch (whole 2 cases) (length ranges) (switchAt switches k)) (whole 5 switches) i → FirstIs 3 i
+        → FirstAt switchBad (switchesIn switches) i → FirstIs 3 i
 
   -- the tables are good, or what is told is the first that is bad
   pub data Outcome (t : Told) : Type 0 where
@@ -128,24 +163,25 @@ module _ (chains steps switches cases ranges : List ℕ) where
   -- which of them it is goes by the tests in their order
   all-whole : NoneRagged → AllWhole chains steps switches cases
   all-whole n = record {
-    chains-whole = is-whole 7 chains (n .chains-whole);
-    steps-whole = is-whole 4 steps (n .steps-whole);
-    switches-whole = is-whole 5 switches (n .switches-whole);
-    cases-whole = is-whole 2 cases (n .cases-whole);
+    chains-whole = is-whole chainWords chains (n .chains-whole);
+    steps-whole = is-whole stepWords steps (n .steps-whole);
+    switches-whole = is-whole switchWords switches (n .switches-whole);
+    cases-whole = is-whole caseWords cases (n .cases-whole);
   }
 
   by-entry : NoneRagged → Outcome told
   by-entry n =
-      in-turn (told-upward (badTable 1) _ (whole 7 chains)) (told-upward (badTable 2) _ (whole 4 steps))
-      (told-upward (badTable 3) _ (whole 5 switches))
+      in-turn (told-upward (badTable 1) _ (chainsIn chains)) (told-upward (badTable 2) _ (stepsIn steps))
+      (told-upward (badTable 3) _ (switchesIn switches))
     where
-      in-turn : Upward (badTable 1) (λ i. badChain (whole 4 steps) (chainAt chains i)) (whole 7 chains) inChains
-          → Upward (badTable 2) (λ i. badStep (stepAt steps i)) (whole 4 steps) inSteps
-          → Upward (badTable 3) (λ i. badSwitch (whole 2 cases) (length ranges) (switchAt switches i)) (whole 5 switches) inSwitches
-          → Outcome told
+      in-turn : Upward (badTable 1) chainBad (chainsIn chains) inChains
+          → Upward (badTable 2) stepBad (stepsIn steps) inSteps
+          → Upward (badTable 3) switchBad (switchesIn switches) inSwitches → Outcome told
       in-turn (first-at i at e) s w = refused (bad-chain (all-whole n) at) (sym (in-chains n (sym e) (omega arith)))
       in-turn (none c p) (first-at i at e) w =
-          refused (bad-step (all-whole n) (λ k h. good-chain _ _ (c k h)) at) (sym (in-steps n (sym p) (sym e) (omega arith)))
+          refused
+          (bad-step (all-whole n) (λ k h. good-chain _ _ (c k h)) at)
+          (sym (in-steps n (sym p) (sym e) (omega arith)))
       in-turn (none c p) (none s q) (first-at i at e) =
           refused (bad-switch (all-whole n) (λ k h. good-chain _ _ (c k h)) (λ k h. good-step _ (s k h)) at)
           (sym (in-switches n (sym p) (sym q)) ∙ e)
@@ -160,16 +196,22 @@ module _ (chains steps switches cases ranges : List ℕ) where
           (sym (in-switches n (sym p) (sym q)) ∙ e)
 
   pub outcome : Outcome told
-  outcome = go (ragged 7 chains) refl (ragged 4 steps) refl (ragged 5 switches) refl (ragged 2 cases) refl
+  outcome =
+      go (ragged chainWords chains) refl (ragged stepWords steps) refl
+      (ragged switchWords switches) refl (ragged caseWords cases) refl
     where
-      go : (c : Bool) → ragged 7 chains ≡ c → (s : Bool) → ragged 4 steps ≡ s → (w : Bool) → ragged 5 switches ≡ w
-          → (k : Bool) → ragged 2 cases ≡ k → Outcome told
+      go : (c : Bool) → ragged chainWords chains ≡ c → (s : Bool) → ragged stepWords steps ≡ s
+          → (w : Bool) → ragged switchWords switches ≡ w → (k : Bool) → ragged caseWords cases ≡ k → Outcome told
       go true c s q w r k t = refused (ragged-chain c) (sym (ragged-chains c))
-      go false c true s w r k t = refused (ragged-step (is-whole 7 chains c) s) (sym (ragged-steps c s))
+      go false c true s w r k t = refused (ragged-step (is-whole chainWords chains c) s) (sym (ragged-steps c s))
       go false c false s true w k t =
-          refused (ragged-switch (is-whole 7 chains c) (is-whole 4 steps s) w) (sym (ragged-switches c s w))
+          refused
+          (ragged-switch (is-whole chainWords chains c) (is-whole stepWords steps s) w)
+          (sym (ragged-switches c s w))
       go false c false s false w true k =
-          refused (ragged-case (is-whole 7 chains c) (is-whole 4 steps s) (is-whole 5 switches w) k) (sym (ragged-cases c s w k))
+          refused
+          (ragged-case (is-whole chainWords chains c) (is-whole stepWords steps s) (is-whole switchWords switches w) k)
+          (sym (ragged-cases c s w k))
       go false c false s false w false k =
           by-entry (record { chains-whole = c; steps-whole = s; switches-whole = w; cases-whole = k })
 
@@ -183,13 +225,15 @@ module _ (chains steps switches cases ranges : List ℕ) where
 
   -- and what is good passes: in good tables nothing is the first that is bad
   none-first : GoodTables chains steps switches cases ranges → {table entry : ℕ} → FirstIs table entry → ⊥
-  none-first g (ragged-chain r) = true≢false (sym r ∙ not-ragged 7 chains (g .all-whole .chains-whole))
-  none-first g (ragged-step c r) = true≢false (sym r ∙ not-ragged 4 steps (g .all-whole .steps-whole))
-  none-first g (ragged-switch c s r) = true≢false (sym r ∙ not-ragged 5 switches (g .all-whole .switches-whole))
-  none-first g (ragged-case c s w r) = true≢false (sym r ∙ not-ragged 2 cases (g .all-whole .cases-whole))
+  none-first g (ragged-chain r) = true≢false (sym r ∙ not-ragged chainWords chains (g .all-whole .chains-whole))
+  none-first g (ragged-step c r) = true≢false (sym r ∙ not-ragged stepWords steps (g .all-whole .steps-whole))
+  none-first g (ragged-switch c s r) =
+      true≢false (sym r ∙ not-ragged switchWords switches (g .all-whole .switches-whole))
+  none-first g (ragged-case c s w r) = true≢false (sym r ∙ not-ragged caseWords cases (g .all-whole .cases-whole))
   none-first g (bad-chain a f) = true≢false (sym (f .is-bad) ∙ not-bad-chain _ _ (g .good-chains _ (f .within)))
   none-first g (bad-step a c f) = true≢false (sym (f .is-bad) ∙ not-bad-step _ (g .good-steps _ (f .within)))
-  none-first g (bad-switch a c s f) = true≢false (sym (f .is-bad) ∙ not-bad-switch _ _ _ (g .good-switches _ (f .within)))
+  none-first g (bad-switch a c s f) =
+      true≢false (sym (f .is-bad) ∙ not-bad-switch _ _ _ (g .good-switches _ (f .within)))
 
   pub good-passed : GoodTables chains steps switches cases ranges → told ≡ fine
   good-passed g = go outcome

@@ -1,59 +1,75 @@
--- The limits. Document 01, "Flat pools and sizes": "At most: code 65,536 bytes; constants, names, tokens, op-assignments,
--- steps, cases, ranges 65,536 each; chains, switches 4,096; chunks 1,024"; "What comes back": "which limit, from 1 in the
--- order above".
-use mathlib.Core.Bool.{Bool}
-use mathlib.Core.List.{List, [], _∷_}
-use Prim.Native.Nat.{ℕ, _≤_}
+-- The limits. Document 01, "Flat pools and sizes": "At most: code 65,536 bytes; constants, names, tokens,
+-- op-assignments, steps, cases, ranges 65,536 each; chains, switches 4,096; chunks 1,024"; "What comes back": "which
+-- limit, from 1 in the order above".
+use mathlib.Core.Bool.{Bool, false, cond}
+use mathlib.Core.List.{List, [], _∷_, map, List·Memᴰ}
+use mathlib.Core.Path.{_≡_}
+use Prim.Native.Nat.{ℕ, _+_}
 use lib.Dec.{ltb}
-use Rattle.pools.specs.Told.{Told, fine, overLimit, firstFrom}
+use Rattle.pools.specs.Told.{Told, fine, overLimit, first}
+use Rattle.pools.specs.declared.limits.Limit.{Limit}
 use Rattle.pools.specs.declared.limits.Limits.{Limits}
 use Rattle.pools.specs.declared.limits.Limits.the-variants.{Kept, Exceeded}
 use Rattle.pools.specs.declared.limits.Sizes.{Sizes}
 
--- the most bytes of code, shut: no law looks at the number, only the proof that the code's own list has the same
+-- ---- the numbers
+
+-- the most bytes of code, shut: proofs/Most has what is known of it
 unfoldable pub maxCode : ℕ
 maxCode = 65536
 
--- is a count over its limit?
+-- the most constants, names, tokens, op-assignments, steps, cases, ranges, of each
+abbrev pub maxEntries : ℕ
+maxEntries = 65536
+
+-- the most chains, and the most switches
+abbrev pub maxRecords : ℕ
+maxRecords = 4096
+
+abbrev pub maxChunks : ℕ
+maxChunks = 1024
+
+-- the most targets of one instruction: those of a switch with every case, every range and its default
+abbrev pub maxTargets : ℕ
+maxTargets = maxEntries + maxEntries + 1
+
+-- ---- the limits
+
+-- is a count over the most that there may be?
 abbrev pub over : (most count : ℕ) → Bool
 over most count = ltb most count
 
--- the limits in their order
-unfoldable pub limits : Sizes → List Bool
+-- the limits in the order of their tests, each with its number and whether it is exceeded
+unfoldable pub limits : Sizes → List Limit
 limits s =
-    over maxCode (s .code) ∷
-    over 65536 (s .constants) ∷
-    over 65536 (s .names) ∷
-    over 65536 (s .tokens) ∷
-    over 65536 (s .«op_assignments») ∷
-    over 65536 (s .steps) ∷
-    over 65536 (s .cases) ∷
-    over 65536 (s .ranges) ∷
-    over 4096 (s .chains) ∷
-    over 4096 (s .switches) ∷
-    over 1024 (s .chunks) ∷ []
+    (1, over maxCode (s .code)) ∷
+    (2, over maxEntries (s .constants)) ∷
+    (3, over maxEntries (s .names)) ∷
+    (4, over maxEntries (s .tokens)) ∷
+    (5, over maxEntries (s .«op_assignments»)) ∷
+    (6, over maxEntries (s .steps)) ∷
+    (7, over maxEntries (s .cases)) ∷
+    (8, over maxEntries (s .ranges)) ∷
+    (9, over maxRecords (s .chains)) ∷
+    (10, over maxRecords (s .switches)) ∷
+    (11, over maxChunks (s .chunks)) ∷ []
 
--- what they tell, numbered from 1
-unfoldable pub firstExceeded : Sizes → Told
-firstExceeded s = firstFrom overLimit 1 (limits s)
+-- what one tells, and what several do, in their order
+unfoldable pub tells : Limit → Told
+tells l = cond (l .1) (overLimit (l .0)) fine
 
--- the number of the first limit that is exceeded, 0 where none is
-abbrev pub tooLarge : Sizes → ℕ
-tooLarge s = firstExceeded s .p
+unfoldable pub firstOver : List Limit → Told
+firstOver ls = first (map tells ls)
 
--- each count is within its limit
+abbrev pub firstExceeded : Sizes → Told
+firstExceeded s = firstOver (limits s)
+
+-- none of them is exceeded
+abbrev pub AllKept : List Limit → Type 0
+AllKept ls = (l : Limit) → List·Memᴰ l ls → l .1 ≡ false
+
 pub record Within (s : Sizes) : Type 0 where
-  pub code : s .code ≤ maxCode
-  pub constants : s .constants ≤ 65536
-  pub names : s .names ≤ 65536
-  pub tokens : s .tokens ≤ 65536
-  pub opAssignments : s .«op_assignments» ≤ 65536
-  pub steps : s .steps ≤ 65536
-  pub cases : s .cases ≤ 65536
-  pub ranges : s .ranges ≤ 65536
-  pub chains : s .chains ≤ 4096
-  pub switches : s .switches ≤ 4096
-  pub chunks : s .chunks ≤ 1024
+  pub kept : AllKept (limits s)
 
 -- the cases of an answer by document 01's numbers
 unfoldable pub numbered : Limits → Told

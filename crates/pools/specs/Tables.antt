@@ -1,12 +1,14 @@
 -- The tables' tests and their order. Document 01, "What comes back": "ragged table, unknown root, tail or kind, first +
--- count past its table", "table (1 chain, 2 step, 3 switch, 4 case), entry (if ragged, the number of whole ones)"; "Order of
--- the tests": "ragged tables; table entries, tables and entries upward".
+-- count past its table", "table (1 chain, 2 step, 3 switch, 4 case), entry (if ragged, the number of whole ones)";
+-- "Order of the tests": "ragged tables; table entries, tables and entries upward".
 use mathlib.Core.Bool.{Bool, _||_, cond}
 use mathlib.Core.List.{List, [], _∷_}
 use Prim.Native.Nat.{ℕ, _+_, _%_}
 use lib.Dec.{ltb}
 use lib.ListN.{length}
-use Rattle.pools.specs.Pools.{Chain, Step, Switch, whole, chainAt, stepAt, switchAt, entries}
+use Rattle.pools.specs.Pools.{Chain, Step, Switch, chainAt, stepAt, switchAt, entries}
+use Rattle.pools.specs.Pools.{chainWords, stepWords, switchWords, caseWords}
+use Rattle.pools.specs.Pools.{whole, chainsIn, stepsIn, switchesIn, casesIn}
 use Rattle.pools.specs.Told.{Told, fine, badTable, first, firstFrom}
 use Rattle.pools.specs.declared.tables.Tables.{Tables}
 use Rattle.pools.specs.declared.tables.Tables.the-variants.{Good, Bad}
@@ -44,19 +46,21 @@ abbrev pub goodEntries : (table : ℕ) → (ℕ → Bool) → (count : ℕ) → 
 goodEntries table bad count = firstFrom (badTable table) 0 (entries bad 0 count)
 
 abbrev pub goodChains : List ℕ → (steps : ℕ) → Told
-goodChains chains steps = goodEntries 1 (λ i. badChain steps (chainAt chains i)) (whole 7 chains)
+goodChains chains steps = goodEntries 1 (λ i. badChain steps (chainAt chains i)) (chainsIn chains)
 
 abbrev pub goodSteps : List ℕ → Told
-goodSteps steps = goodEntries 2 (λ i. badStep (stepAt steps i)) (whole 4 steps)
+goodSteps steps = goodEntries 2 (λ i. badStep (stepAt steps i)) (stepsIn steps)
 
 abbrev pub goodSwitches : List ℕ → (cases ranges : ℕ) → Told
-goodSwitches switches cases ranges = goodEntries 3 (λ i. badSwitch cases ranges (switchAt switches i)) (whole 5 switches)
+goodSwitches switches cases ranges =
+    goodEntries 3 (λ i. badSwitch cases ranges (switchAt switches i)) (switchesIn switches)
 
 unfoldable pub firstBad : (chains steps switches cases ranges : List ℕ) → Told
 firstBad chains steps switches cases ranges =
     first (
-    wholeTable 1 7 chains ∷ wholeTable 2 4 steps ∷ wholeTable 3 5 switches ∷ wholeTable 4 2 cases ∷
-    goodChains chains (whole 4 steps) ∷ goodSteps steps ∷ goodSwitches switches (whole 2 cases) (length ranges) ∷ [])
+    wholeTable 1 chainWords chains ∷ wholeTable 2 stepWords steps ∷ wholeTable 3 switchWords switches ∷
+    wholeTable 4 caseWords cases ∷
+    goodChains chains (stepsIn steps) ∷ goodSteps steps ∷ goodSwitches switches (casesIn cases) (length ranges) ∷ [])
 
 -- the cases of an answer by document 01's numbers
 unfoldable pub numbered : Tables → Told

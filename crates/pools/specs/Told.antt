@@ -1,5 +1,5 @@
--- What a test tells, in document 01's numbers, and which of several tests tells first. Document 01, "What comes back": kind,
--- p and q, "unused are 0"; "A kind is given exactly when its test, in its turn, is the first to fail".
+-- What a test tells, in document 01's numbers, and which of several tests tells first. Document 01, "What comes back":
+-- kind, p and q, "unused are 0"; "A kind is given exactly when its test, in its turn, is the first to fail".
 use mathlib.Core.Bool.{Bool, cond}
 use mathlib.Core.List.{List, [], _∷_}
 use Prim.Native.Nat.{ℕ, _+_}

@@ -1,6 +1,7 @@
-// The lent pools, before anything reads them: few enough of everything (`limits`), and tables whose entries are whole and
-// good (`tables`). Every answer is fixed by the counts or the words, whatever they are. Who comes after may rely on it that
-// each span of an entry lies within its table. Which names and constants an entry may name is left to `indices`.
+// The lent pools, before anything reads them: few enough of everything (`limits`), and tables whose entries are whole
+// and good (`tables`). Every answer is fixed by the counts or the words, whatever they are. Who comes after may rely on
+// it that each span of an entry lies within its table. Which names and constants an entry may name is left to
+// `indices`.
 pub mod limits;
 pub mod tables;
 

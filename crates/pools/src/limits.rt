@@ -17,7 +17,7 @@ pub struct Sizes {
     pub chunks: usize,
 }
 
-// Every limit is kept, or the first that is not, numbered from 1 in the order of `MOST`.
+// Every limit is kept, or the first that is not, by its number.
 pub enum Limits {
     Kept,
     Exceeded(u64),
@@ -26,44 +26,41 @@ pub enum Limits {
 // The most bytes of code.
 pub const MAX_CODE: usize = 65536;
 
-// The most of each, in document 01's order, which the answer counts by.
-const MOST: [usize; 11] = [
-    MAX_CODE,
-    65536, // constants
-    65536, // names
-    65536, // tokens
-    65536, // op-assignments
-    65536, // steps
-    65536, // cases
-    65536, // ranges
-    4096, // chains
-    4096, // switches
-    1024, // chunks
-];
+// The most constants, names, tokens, op-assignments, steps, cases, ranges, of each.
+const MAX_ENTRIES: usize = 65536;
+
+// The most chains, and the most switches.
+const MAX_RECORDS: usize = 4096;
+
+const MAX_CHUNKS: usize = 1024;
+
+// A limit: its number, and whether it is exceeded.
+pub struct Limit(pub u64, pub bool);
 
 // Is there more of anything than its limit allows?
 pub fn check_limits(sizes: Sizes) -> Limits
     ensures { λ r. ⌜ numbered r ≡ firstExceeded sizes ⌝ }
 {
-    let counts = [
-        sizes.code,
-        sizes.constants,
-        sizes.names,
-        sizes.tokens,
-        sizes.op_assignments,
-        sizes.steps,
-        sizes.cases,
-        sizes.ranges,
-        sizes.chains,
-        sizes.switches,
-        sizes.chunks,
+    let limits = [
+        Limit(1, sizes.code > MAX_CODE),
+        Limit(2, sizes.constants > MAX_ENTRIES),
+        Limit(3, sizes.names > MAX_ENTRIES),
+        Limit(4, sizes.tokens > MAX_ENTRIES),
+        Limit(5, sizes.op_assignments > MAX_ENTRIES),
+        Limit(6, sizes.steps > MAX_ENTRIES),
+        Limit(7, sizes.cases > MAX_ENTRIES),
+        Limit(8, sizes.ranges > MAX_ENTRIES),
+        Limit(9, sizes.chains > MAX_RECORDS),
+        Limit(10, sizes.switches > MAX_RECORDS),
+        Limit(11, sizes.chunks > MAX_CHUNKS),
     ];
-    let mut limit = 0;
-    while limit < counts.len() {
-        if counts[limit] > MOST[limit] {
-            return Limits::Exceeded(limit as u64 + 1);
+    let mut at = 0;
+    while at < limits.len() {
+        let limit = limits[at];
+        if limit.1 {
+            return Limits::Exceeded(limit.0);
         }
-        limit += 1;
+        at += 1;
     }
     Limits::Kept
 }

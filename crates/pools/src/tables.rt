@@ -3,15 +3,16 @@
 // A case and a range have nothing to test here: their words are tested where an instruction names their switch.
 ghost use mathlib.Core.Path.{_≡_};
 ghost use Prim.Native.Nat.{_<_};
-ghost use Rattle.pools.specs.Pools.{whole, chainAt, stepAt, switchAt};
-ghost use Rattle.pools.specs.Tables.{numbered, past, badChain, badStep, badSwitch, goodChains, goodSteps, goodSwitches, firstBad};
+ghost use Rattle.pools.specs.Pools.{chainAt, stepAt, switchAt, chainsIn, stepsIn, switchesIn};
+ghost use Rattle.pools.specs.Tables.{numbered, past, badChain, badStep, badSwitch};
+ghost use Rattle.pools.specs.Tables.{goodChains, goodSteps, goodSwitches, firstBad};
 use super::CASE_WORDS;
 use super::CHAIN_WORDS;
 use super::STEP_WORDS;
 use super::SWITCH_WORDS;
 
-// Every table is whole and each entry good; or a table, and its first bad entry, or the number of whole ones where it is
-// ragged.
+// Every table is whole and each entry good; or a table, and its first bad entry, or the number of whole ones where it
+// is ragged.
 pub enum Tables {
     Good,
     Bad(u64, u64),
@@ -62,7 +63,7 @@ fn reaches_past(first: u32, count: u32, entries: usize) -> bool
 
 // Is a chain bad, where there are so many steps? For a caller who knows that the entry is there.
 fn chain_is_bad(chains: &[u32], entry: usize, steps: usize) -> bool
-    requires { ⌜ entry < whole 7 (now chains) ⌝ }
+    requires { ⌜ entry < chainsIn (now chains) ⌝ }
     ensures { λ r. ⌜ r ≡ badChain steps (chainAt (now (chains .entry)) entry) ⌝ }
 {
     let at = entry * CHAIN_WORDS;
@@ -77,7 +78,7 @@ fn chain_is_bad(chains: &[u32], entry: usize, steps: usize) -> bool
 
 // Is a step bad? For a caller who knows that the entry is there.
 fn step_is_bad(steps: &[u32], entry: usize) -> bool
-    requires { ⌜ entry < whole 4 (now steps) ⌝ }
+    requires { ⌜ entry < stepsIn (now steps) ⌝ }
     ensures { λ r. ⌜ r ≡ badStep (stepAt (now (steps .entry)) entry) ⌝ }
 {
     let at = entry * STEP_WORDS;
@@ -86,7 +87,7 @@ fn step_is_bad(steps: &[u32], entry: usize) -> bool
 
 // Is a switch bad, where there are so many cases and ranges? For a caller who knows that the entry is there.
 fn switch_is_bad(switches: &[u32], entry: usize, cases: usize, ranges: usize) -> bool
-    requires { ⌜ entry < whole 5 (now switches) ⌝ }
+    requires { ⌜ entry < switchesIn (now switches) ⌝ }
     ensures { λ r. ⌜ r ≡ badSwitch cases ranges (switchAt (now (switches .entry)) entry) ⌝ }
 {
     let at = entry * SWITCH_WORDS;

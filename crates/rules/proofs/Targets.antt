@@ -11,7 +11,7 @@ use lib.ListN.{length, getD}
 use Rattle.code.specs.Layout.{among, tagAt, indexAt, targetAt}
 use Rattle.code.specs.Tags.{SWITCH}
 use Rattle.code.specs.Width.{widthAt}
-use Rattle.pools.specs.Pools.{whole, switchAt}
+use Rattle.pools.specs.Pools.{switchAt, switchesIn}
 use Rattle.rules.specs.Edges.{jumping, armsOf, targetsOf}
 use Rattle.rules.specs.Shapes.{Flow}
 use Rattle.rules.specs.There.{SwitchEntry, SwitchWhole, SwitchThere}
@@ -42,7 +42,7 @@ module _ {code switches : List ℕ} {at flow : ℕ} (L : Leads code switches at 
     pub switch-index : at + 3 ≤ length code
     switch-index = switch-there code at (L .wide) is-switch
 
-    pub switch-named : indexAt code at < whole 5 switches
+    pub switch-named : indexAt code at < switchesIn switches
     switch-named = L .switch-entry .entry is-switch
 
   module _ (cases ranges : List ℕ) where

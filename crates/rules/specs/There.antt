@@ -8,7 +8,8 @@ use Prim.Native.Nat.{ℕ, _+_, _^_, _≤_, _<_}
 use lib.ListN.{length}
 use Rattle.code.specs.Layout.{among, tagAt, indexAt}
 use Rattle.code.specs.Tags.{CHAIN, SWITCH}
-use Rattle.pools.specs.Pools.{whole, chainAt, switchAt}
+use Rattle.pools.specs.Good.{StepsWithin, CasesWithin, RangesWithin}
+use Rattle.pools.specs.Pools.{chainAt, switchAt, chainsIn, stepsIn, switchesIn, casesIn}
 use Rattle.answer.specs.declared.Depths.{Depths}
 use Rattle.rules.specs.Asks.{qualifiable}
 use Rattle.rules.specs.Needs.{iteratorsNeeded, handlersNeeded}
@@ -16,27 +17,27 @@ use Rattle.rules.specs.Shapes.{Flow}
 
 -- the chain of this number is in its table, and its steps are in theirs
 pub record ChainWhole (chains steps : List ℕ) (i : ℕ) : Type 0 where
-  pub entry : i < whole 7 chains
-  pub within : chainAt chains i .firstStep + chainAt chains i .steps ≤ whole 4 steps
+  pub entry : i < chainsIn chains
+  pub within : StepsWithin (stepsIn steps) (chainAt chains i)
 
 -- the switch of this number is in its table, and its cases and ranges are in theirs
 pub record SwitchWhole (switches cases ranges : List ℕ) (i : ℕ) : Type 0 where
-  pub entry : i < whole 5 switches
-  pub cases-within : switchAt switches i .firstCase + switchAt switches i .cases ≤ whole 2 cases
-  pub ranges-within : switchAt switches i .firstRange + switchAt switches i .ranges ≤ length ranges
+  pub entry : i < switchesIn switches
+  pub cases-within : CasesWithin (casesIn cases) (switchAt switches i)
+  pub ranges-within : RangesWithin (length ranges) (switchAt switches i)
 
 -- of the instruction at a place: the name, the chain or the switch that it names
 pub record NameThere (code names : List ℕ) (p : ℕ) : Type 0 where
   pub name : among (tagAt code p) qualifiable ≡ true → indexAt code p < length names
 
 pub record ChainEntry (code chains : List ℕ) (p : ℕ) : Type 0 where
-  pub entry : tagAt code p ≡ CHAIN → indexAt code p < whole 7 chains
+  pub entry : tagAt code p ≡ CHAIN → indexAt code p < chainsIn chains
 
 pub record ChainThere (code chains steps : List ℕ) (p : ℕ) : Type 0 where
   pub chain : tagAt code p ≡ CHAIN → ChainWhole chains steps (indexAt code p)
 
 pub record SwitchEntry (code switches : List ℕ) (p : ℕ) : Type 0 where
-  pub entry : tagAt code p ≡ SWITCH → indexAt code p < whole 5 switches
+  pub entry : tagAt code p ≡ SWITCH → indexAt code p < switchesIn switches
 
 pub record SwitchThere (code switches cases ranges : List ℕ) (p : ℕ) : Type 0 where
   pub switch : tagAt code p ≡ SWITCH → SwitchWhole switches cases ranges (indexAt code p)

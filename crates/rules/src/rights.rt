@@ -4,7 +4,7 @@ ghost use Prim.Native.Nat.{_+_, _≤_, _<_};
 ghost use lib.ListN.{length};
 ghost use Rattle.code.specs.Layout.{tagAt};
 ghost use Rattle.code.specs.Width.{widthAt};
-ghost use Rattle.pools.specs.Pools.{whole, chainAt, stepAt, entries};
+ghost use Rattle.pools.specs.Pools.{chainAt, stepAt, entries, stepsIn};
 ghost use Rattle.rules.specs.Rights.{ofName, ofStep, ofSteps, ofChain, required, lacking};
 ghost use Rattle.rules.specs.Shapes.{Shape};
 ghost use Rattle.rules.specs.There.{NameThere, ChainWhole, ChainThere};
@@ -23,7 +23,7 @@ fn name_caps(names: &[u8], i: usize) -> u32
 
 // What the step of this number needs.
 fn step_caps(steps: &[u32], i: usize) -> u32
-    requires { ⌜ i < whole 4 (now steps) ⌝ }
+    requires { ⌜ i < stepsIn (now steps) ⌝ }
     ensures { λ r. ⌜ r ≡ ofStep (stepAt (now (steps .entry)) i) ⌝ }
 {
     let kind = steps[i * STEP_WORDS];
@@ -38,7 +38,7 @@ fn step_caps(steps: &[u32], i: usize) -> u32
 
 // What so many steps from a first one on need, joined from the last back.
 fn steps_caps(steps: &[u32], first: usize, count: usize) -> u32
-    requires { ⌜ first + count ≤ whole 4 (now steps) ⌝ }
+    requires { ⌜ first + count ≤ stepsIn (now steps) ⌝ }
     ensures { λ r. ⌜ r ≡ ofSteps (entries (stepAt (now (steps .entry))) first count) ⌝ }
 {
     let mut joined: u32 = 0;

@@ -12,6 +12,7 @@ ghost use Rattle.code.specs.Layout.{tagAt};
 ghost use Rattle.code.specs.Width.{widthAt};
 ghost use Rattle.listing.specs.Listing.{starts};
 ghost use Rattle.marks.specs.Marks.{Holds};
+ghost use Rattle.pools.specs.Sizes.{maxCode};
 ghost use Rattle.answer.specs.declared.Depths.{Depths};
 ghost use Rattle.rules.specs.Edges.{targetsOf};
 ghost use Rattle.demand.specs.Rule.{judge};
@@ -126,7 +127,7 @@ pub fn rule_of(
     requires { ⌜ 0 < widthAt (now code) at ⌝ }
     requires { ⌜ NameThere (now code) (now names) at ⌝ }
     requires { ⌜ ChainThere (now code) (now chains) (now steps) at ⌝ }
-    requires { ⌜ length (now code) ≤ 65536 ⌝ }
+    requires { ⌜ length (now code) ≤ maxCode ⌝ }
     requires { ⌜ d .operands + 1 < 2 ^ 32 ⌝ }
     requires { ⌜ d .iterators + 1 < 2 ^ 32 ⌝ }
     requires { ⌜ d .handlers + 1 < 2 ^ 32 ⌝ }

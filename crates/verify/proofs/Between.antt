@@ -15,6 +15,8 @@ use Rattle.before.proofs.Established.{established, marks-count, room}
 use Rattle.listing.specs.Listing.{starts}
 use Rattle.marks.specs.Marks.{total}
 use Rattle.opening.specs.Ready.{Ready, Marked}
+use Rattle.pools.specs.Sizes.{maxChunks}
+use Rattle.pools.proofs.LimitLaws.{chunks-kept}
 use Rattle.answer.specs.Answer.{noChunk, numbered, told}
 use Rattle.demand.specs.Chunk.{passes, fails, judgeChunk}
 use Rattle.demand.specs.Chunk as chunk
@@ -32,7 +34,7 @@ use Rattle.verify.specs.declared.stages.State.the-variants.{Going, Ended
 use Rattle.judging.specs.Spans.{chunkAt}
 use Rattle.verify.specs.Call.{Memory, BothClear, marksOn, Calls}
 use Rattle.judging.specs.Judging.{Judged, judgeAll, Judges}
-use Rattle.verify.specs.Stages.{opened, wordsOn, Begins, advanced, marksThen, Advances, Fits, Few, Asks, Takes, goesOn, finished}
+use Rattle.verify.specs.Stages.{mostReached, mostTaken, opened, wordsOn, Begins, advanced, marksThen, Advances, Fits, Few, Asks, Takes, goesOn, finished}
 use Rattle.judging.proofs.Chain.{judge-passes, judge-fails, judge-none, Judging, judging-first, judging-done, judging-fails, judging-passes}
 use Rattle.verify.proofs.Small.{small}
 use Rattle.verify.proofs.Whole.{bare, ready, untouched, zeroed-all, marked-so, starts-small, judged-call, zeros-still, concludes-passed, concludes-refused}
@@ -123,7 +125,7 @@ module _ (S : Script) (records work : ℕ) (span : Span) (number : ℕ) (heights
   one-fails e = judge-fails S records work span [] number 0 0 heights e
 
   -- its counts fit, where those before are few
-  pub one-fits : Ready S → number ≤ 1024 → (state : State) → Few state number → Fits state (judgeAll S records work (span ∷ []) number 0 0 heights .answer)
+  pub one-fits : Ready S → number ≤ maxChunks → (state : State) → Few state number → Fits state (judgeAll S records work (span ∷ []) number 0 0 heights .answer)
   unfolding Few Fits
   one-fits R low state few = go state few (judgeChunk S span records work) refl
     where
@@ -138,7 +140,7 @@ module _ (S : Script) (records work : ℕ) (span : Span) (number : ℕ) (heights
 -- the counts of several chunks are few
 few-all : (S : Script) (records work : ℕ) → Ready S → (spans : List Span) (number reached taken : ℕ) (heights : List ℕ) (r t : ℕ)
     → judgeAll S records work spans number reached taken heights .answer ≡ AllPass r t
-    → (r ≤ reached + length spans * 2 ^ 17) × (t ≤ taken + length spans * 2 ^ 40)
+    → (r ≤ reached + length spans * mostReached) × (t ≤ taken + length spans * mostTaken)
 few-all S records work R [] number reached taken heights r t e =
     let none-left = judge-none S records work number reached taken heights in
     let so : AllPass reached taken ≡ AllPass r t = sym (ap (λ (j : Judged). j .answer) none-left) ∙ e in
@@ -149,8 +151,8 @@ few-all S records work R (span ∷ spans) number reached taken heights r t e = g
   where
     go : (o : chunk.Judged) → judgeChunk S span records work ≡ o
         → ((number reached taken : ℕ) (heights : List ℕ) (r t : ℕ) → judgeAll S records work spans number reached taken heights .answer ≡ AllPass r t
-        → (r ≤ reached + length spans * 2 ^ 17) × (t ≤ taken + length spans * 2 ^ 40))
-        → (r ≤ reached + length (span ∷ spans) * 2 ^ 17) × (t ≤ taken + length (span ∷ spans) * 2 ^ 40)
+        → (r ≤ reached + length spans * mostReached) × (t ≤ taken + length spans * mostTaken))
+        → (r ≤ reached + length (span ∷ spans) * mostReached) × (t ≤ taken + length (span ∷ spans) * mostTaken)
     go (passes height more further) q rest =
         let s = small S R span records work q in
         let others = rest (number + 1) (reached + more) (taken + further) (set heights number height) r t
@@ -162,7 +164,7 @@ few-all S records work R (span ∷ spans) number reached taken heights r t e = g
 
 module _ {S : Script} {records work : ℕ} {span : Span} {number : ℕ} {heights : List ℕ} {judgement : Judgement} {heights′ records′ work′ : List ℕ}
     (j : Judges S records work (span ∷ []) number heights judgement heights′ records′ work′) where
-  pub judged-fits : Ready S → number ≤ 1024 → (state : State) → Few state number → Fits state judgement
+  pub judged-fits : Ready S → number ≤ maxChunks → (state : State) → Few state number → Fits state judgement
   judged-fits R low state few = rw (j .answer) (one-fits S records work span number heights R low state few)
 
   pub takes-so : {state : State} {marks : List ℕ} {r : State} {marks′ : List ℕ} → Advances state judgement marks r marks′
@@ -256,11 +258,11 @@ module _ (I : Input) (spans : List Span) (before : Memory) where
 
     pub all-ask : I .chunks ≡ length spans
         → Ready S × (Marked marks (I .script .code) × ((records ≡ replicate (length records) 0) × ((work ≡ replicate (length work) 0)
-        × ((length spans ≤ 1024) × ((0 + length spans ≤ length (before .heights)) × (0 ≤ 1024))))))
+        × ((length spans ≤ maxChunks) × ((0 + length spans ≤ length (before .heights)) × (0 ≤ maxChunks))))))
     all-ask every =
         let is = established I _ _ (w .passed) in
         let lent = room I _ _ (w .passed) .heights-lent in
-        (ready I is, (marked-so I spans before begun refl, (zeros-still words (w .judging .records-zero), (zeros-still rooms (w .judging .work-zero), (omega (arith, is .kept .chunks), (omega arith, omega arith))))))
+        (ready I is, (marked-so I spans before begun refl, (zeros-still words (w .judging .records-zero), (zeros-still rooms (w .judging .work-zero), (omega (arith, chunks-kept (is .kept)), (omega arith, omega arith))))))
 
     module _ {judgement : Judgement} {heights′ records′ work′ : List ℕ}
         (j : Judges S (length records) (length work) spans 0 (before .heights) judgement heights′ records′ work′) where
@@ -272,7 +274,7 @@ module _ (I : Input) (spans : List Span) (before : Memory) where
           go (AllPass more further) q =
               let is = established I _ _ (w .passed) in
               let all-few = few-all S (length records) (length work) (ready I is) spans 0 0 0 (before .heights) more further (sym q) in
-              (omega (arith, all-few .0, w .judging .few-reached, is .kept .chunks), omega (arith, all-few .1, w .judging .few-taken, is .kept .chunks))
+              (omega (arith, all-few .0, w .judging .few-reached, chunks-kept (is .kept)), omega (arith, all-few .1, w .judging .few-taken, chunks-kept (is .kept)))
           go (Failed chunk a) q = tt
 
       pub all-judged : I .chunks ≡ length spans → {s s′ : State} {marks′ : List ℕ} → s ≡ Going instructions reached taken → Advances s judgement marks s′ marks′ → {v : Verdict} → v ≡ finished s′
@@ -310,7 +312,7 @@ module _ (I : Input) (spans : List Span) (before : Memory) where
           records-zero = zeros-still words (w .judging .records-zero);
           work-zero = zeros-still rooms (w .judging .work-zero);
           room = omega (arith, w .judging .long);
-          low = omega (arith, is .kept .chunks);
+          low = omega (arith, chunks-kept (is .kept));
           few = (w .judging .few-reached, w .judging .few-taken);
         }
     stands-asks every (Ended verdict) w e = absurd (zero≢one (cc))

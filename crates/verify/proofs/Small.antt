@@ -6,6 +6,7 @@ use Prim.Native.Nat.{ℕ, _+_, _^_, _≤_}
 use native.Mathlib.Omega.{arith}
 use lib.Dec.{ltb}
 use Rattle.opening.specs.Ready.{Ready}
+use Rattle.pools.proofs.Most.{code-small, room-small}
 use Rattle.answer.specs.declared.Answer.{Answer}
 use Rattle.answer.specs.declared.Answer.the-variants.{StackExceedsDeclared}
 use Rattle.demand.specs.Chunk.{Judged, passes, fails, measured, walked, judgeChunk, BeforeWalk}
@@ -18,6 +19,7 @@ use Rattle.demand.proofs.Demand.{judged-walks, few-instructions}
 use Rattle.machine.proofs.Ends.{accepted-bounded}
 use Rattle.demand.proofs.Keeps.{keeps-laws}
 use Rattle.answer.proofs.Apart.{zero≢one}
+use Rattle.verify.specs.Stages.{mostReached, mostTaken}
 use Rattle.verify.proofs.Chunks.{passes-opens}
 use Rattle.judging.proofs.Walking.{few-edges}
 
@@ -29,9 +31,8 @@ module _ (S : Script) (R : Ready S) (span : Span) (records work : ℕ) where
         decoded = R .listable .decoded;
         chain-there = λ p s has. R .chain-there p s .chain has .entry;
         switch-there = λ p s has. R .listable .switch-there p s .switch has .entry;
-        steps-within = R .steps-within;
-        cases-within = R .cases-within;
-        ranges-within = R .ranges-within;
+        chains-within = R .chains-within;
+        switches-within = R .switches-within;
         in-order = o .in-code .in-order;
         in-code = o .in-code .in-code;
         aligned = o .in-code .aligned;
@@ -40,8 +41,8 @@ module _ (S : Script) (R : Ready S) (span : Span) (records work : ℕ) where
       }
 
   pub record Small (reached taken : ℕ) : Type 0 where
-    pub few-reached : reached ≤ 2 ^ 17
-    pub few-taken : taken ≤ 2 ^ 40
+    pub few-reached : reached ≤ mostReached
+    pub few-taken : taken ≤ mostTaken
 
   pub small : {h r t : ℕ} → judgeChunk S span records work ≡ passes h r t → Small r t
   unfolding walked measured E
@@ -58,8 +59,8 @@ module _ (S : Script) (R : Ready S) (span : Span) (records work : ℕ) where
               let same-reached : b .reached ≡ r = cc f in
               let same-taken : b .taken ≡ t = cc f in
               record {
-                few-reached = omega (arith, most .few, few-instructions S span (before e), R .listable .small, same-reached);
-                few-taken = omega (arith, most .room, few-edges S R span (before e), same-taken);
+                few-reached = omega (arith, most .few, few-instructions S span (before e), R .listable .small, same-reached, code-small);
+                few-taken = omega (arith, most .room, few-edges S R span (before e), same-taken, room-small);
               }
       go (refused x u) q f = absurd (zero≢one (cc))
       go (unfinished w b) q f = absurd (zero≢one (cc))

@@ -6,6 +6,7 @@ use lib.Dec.{eqb}
 use lib.ListN.{length}
 use Rattle.code.specs.Layout.{among}
 use Rattle.listing.specs.Listing.{starts}
+use Rattle.pools.proofs.TableLaws.{chains-within, switches-within}
 use Rattle.demand.specs.Chunk.{BeforeWalk}
 use Rattle.demand.specs.Span.{T, E, Span}
 use Rattle.before.specs.Input.{Input}
@@ -20,9 +21,8 @@ module _ (I : Input) (is : Established I) where
     decoded = is .decoded;
     chain-there = λ p s has. chain-there I is p s .chain has .entry;
     switch-there = λ p s has. switch-there I is p s .switch has .entry;
-    steps-within = λ i h. is .good .good-chains i h .within;
-    cases-within = λ i h. is .good .good-switches i h .cases-within;
-    ranges-within = λ i h. is .good .good-switches i h .ranges-within;
+    chains-within = chains-within (is .good);
+    switches-within = switches-within (is .good);
     in-order = in-order;
     in-code = in-code;
     aligned = aligned;

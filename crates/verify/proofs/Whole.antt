@@ -17,7 +17,9 @@ use Rattle.listing.proofs.Starts.{listed-start, rising, start-wide}
 use Rattle.marks.specs.Marks.{total}
 use Rattle.marks.proofs.Counts.{rising-length}
 use Rattle.opening.specs.Ready.{Ready, Marked}
-use Rattle.pools.specs.Sizes.{maxCode}
+use Rattle.pools.proofs.LimitLaws.{code-kept, cases-kept, ranges-kept}
+use Rattle.pools.proofs.Most.{code-small}
+use Rattle.pools.proofs.TableLaws.{chains-within, switches-within}
 use Rattle.answer.specs.Answer.{noChunk, numbered, told}
 use Rattle.demand.specs.Chunk.{passes, fails, measured, judgeChunk, walked}
 use Rattle.demand.specs.Chunk as chunk
@@ -117,20 +119,18 @@ module _ {judgement : Judgement} {marks : List ℕ} {r : Verdict} where
 
 module _ (I : Input) (is : known.Established I) where
   pub ready : Ready (bare (I .script))
-  unfolding maxCode
   ready = record {
     listable = record {
       decoded = is .decoded;
       switch-there = known.switch-there I is;
-      small = is .kept .code;
-      few-cases = is .kept .cases;
-      few-ranges = is .kept .ranges;
+      small = code-kept (is .kept);
+      few-cases = cases-kept (is .kept);
+      few-ranges = ranges-kept (is .kept);
     };
     name-there = known.name-there I is;
     chain-there = known.chain-there I is;
-    steps-within = λ i h. is .good .good-chains i h .within;
-    cases-within = λ i h. is .good .good-switches i h .cases-within;
-    ranges-within = λ i h. is .good .good-switches i h .ranges-within;
+    chains-within = chains-within (is .good);
+    switches-within = switches-within (is .good);
   }
 
   -- there are no more starts than bytes
@@ -143,8 +143,7 @@ module _ (I : Input) (is : known.Established I) where
       )
 
   pub starts-small : length (starts (I .script .code)) < 2 ^ 64
-  unfolding maxCode
-  starts-small = omega (arith, few-starts, is .kept .code)
+  starts-small = omega (arith, few-starts, code-kept (is .kept), code-small)
 
 -- ---- the ways
 

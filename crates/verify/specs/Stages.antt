@@ -13,6 +13,7 @@ use Rattle.before.specs.Input.{Input}
 use Rattle.before.specs.Memory.{marksAfter}
 use Rattle.marks.specs.Marks.{total}
 use Rattle.opening.specs.Ready.{Ready, Marked}
+use Rattle.pools.specs.Sizes.{maxChunks}
 use Rattle.answer.specs.Answer.{noChunk, numbered}
 use Rattle.answer.specs.declared.Answer.the-variants.{Accepted}
 use Rattle.answer.specs.declared.verdict.Verdict.{Verdict}
@@ -66,9 +67,16 @@ Fits (Going instructions reached taken) (Passed more further) = (reached + more 
 Fits (Going instructions reached taken) (Refused chunk a) = Unit {0}
 Fits (Ended verdict) judgement = Unit {0}
 
+-- one chunk counts no more than these: it has as many instructions as bytes at most, and 1 + E is below 2^40
+abbrev pub mostReached : ℕ
+mostReached = 2 ^ 21
+
+abbrev pub mostTaken : ℕ
+mostTaken = 2 ^ 40
+
 -- the counts are those of so many chunks at most
 unfoldable pub Few : State → (chunks : ℕ) → Type 0
-Few (Going instructions reached taken) chunks = (reached ≤ chunks * 2 ^ 17) × (taken ≤ chunks * 2 ^ 40)
+Few (Going instructions reached taken) chunks = (reached ≤ chunks * mostReached) × (taken ≤ chunks * mostTaken)
 Few (Ended verdict) chunks = Unit {0}
 
 -- what a call for one chunk builds on
@@ -78,7 +86,7 @@ pub record Asks (S : Script) (number : ℕ) (state : State) (marks heights recor
   pub records-zero : records ≡ replicate (length records) 0
   pub work-zero : work ≡ replicate (length work) 0
   pub room : number < length heights
-  pub low : number ≤ 1024
+  pub low : number ≤ maxChunks
   pub few : Few state number
 
 -- and what it comes to, where so many words of records and of work are lent

@@ -16,6 +16,7 @@ use Rattle.listing.specs.Listing.{Start}
 use Rattle.listing.proofs.Starts.{start-wide}
 use Rattle.order.specs.Order.{Rising, below}
 use Rattle.order.proofs.Laws.{below-mono}
+use Rattle.pools.proofs.Most.{code-small}
 use Rattle.answer.specs.declared.Answer.{Answer}
 use Rattle.rules.specs.Edges.{degree, falls, targets, after, jumped, next}
 use Rattle.machine.specs.Machine.{denies, gives, fallTo}
@@ -140,10 +141,10 @@ module _ (S : Script) (room : Room) (h : Hand) (marks records work : List ℕ) (
       let s = small S room records work (A .before) h (A .going) in
       let few = A .ready .listable .small in
       record {
-        operands = omega (arith, s .operands, s .few);
-        iterators = omega (arith, s .iterators, s .few);
-        handlers = omega (arith, s .handlers, s .few);
-        reached = omega (arith, s .few);
+        operands = omega (arith, s .operands, s .few, code-small);
+        iterators = omega (arith, s .iterators, s .few, code-small);
+        handlers = omega (arith, s .handlers, s .few, code-small);
+        reached = omega (arith, s .few, code-small);
       }
 
   pub waits-room : h .waiting * 4 ≤ length work

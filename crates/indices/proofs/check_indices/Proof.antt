@@ -71,7 +71,7 @@ check-chain-indices-requires c κs =
     let p = c .before .before .before in
     let sound = start p .pre .1 in
     let there = chain-entry _ (code p) (at p) (own p) (t p) sound _ (c .read-u16 .ensures) (c .before .match2 .keys1) in
-    (there, sound .steps-within _ there)
+    (there, sound .chains-within .steps-within _ there)
 
 add-read-u16-2 : tie.Need-add-read-u16-2
 add-read-u16-2 c =

@@ -10,6 +10,8 @@ use lib.ListN.{length, getD, length-replicate}
 use Rattle.opening.specs.declared.Room.{Room}
 use Rattle.opening.specs.Opens.{Opens, Readies}
 use Rattle.opening.specs.Ready.{Ready, Marked}
+use Rattle.pools.specs.Sizes.{maxChunks}
+use Rattle.pools.proofs.Most.{code-small, room-small}
 use Rattle.demand.specs.Chunk.{judgeChunk, redeclared}
 use Rattle.rules.specs.Script.{Script, script}
 use Rattle.demand.specs.Span.{Span}
@@ -69,13 +71,13 @@ module _ (p : tie.At-call Inv-items μ-items Inv-call μ-call) where
   marked : Marked (now (p .before .before .before .before .before .before .before .before .before .before .before .before .before .before .before .before .args .marks)) (S .code)
   marked = p .before .before .before .before .before .before .before .before .before .before .before .before .before .before .before .before .pre .1 .0
 
-  few-spans : length spans ≤ 1024
+  few-spans : length spans ≤ maxChunks
   few-spans = p .before .before .before .before .before .before .before .before .before .before .before .before .before .before .before .before .pre .1 .1 .1 .1 .0
 
   heights-room : p .before .before .before .before .before .before .before .before .before .before .before .before .before .before .before .before .args .first + length spans ≤ length (now (p .before .before .before .before .before .before .before .before .before .before .before .before .before .before .before .before .args .heights))
   heights-room = p .before .before .before .before .before .before .before .before .before .before .before .before .before .before .before .before .pre .1 .1 .1 .1 .1 .0
 
-  low : p .before .before .before .before .before .before .before .before .before .before .before .before .before .before .before .before .args .first ≤ 1024
+  low : p .before .before .before .before .before .before .before .before .before .before .before .before .before .before .before .before .args .first ≤ maxChunks
   low = p .before .before .before .before .before .before .before .before .before .before .before .before .before .before .before .before .pre .1 .1 .1 .1 .1 .1
 
   records-long : length (p .call .records) ≡ words
@@ -245,12 +247,12 @@ enum-told c = search needs
 add-reached : tie.Need-add-reached Inv-items μ-items Inv-call μ-call
 add-reached c =
     let few = ended-few (walking (c .before .before .before .before .before .before .before .before .before .before .before .before .before .before .before .before .before .before .before .before .before)) (ends (c .before .before .before .before .before .before .before .before .before .before .before .before .before .before) (c .before .before .before .before .before .before .before .before .before .before .before .before .turn2 .given .1)) in
-    omega (arith, few .reached, ready (c .before .before .before .before .before .before .before .before .before .before .before .before .before .before .before .before .before .before .before .before .before .before .before .before .before .before .before .before .before .before .before .before .before .before .before .before .before) .listable .small, c .before .before .before .before .before .before .before .before .before .before .before .before .before .before .before .before .before .before .before .before .before .before .before .before .before .before .before .before .before .before .before .before .before .before .before .before .before .call .inv .few-reached, here (c .before .before .before .before .before .before .before .before .before .before .before .before .before .before .before .before .before .before .before .before .before .before .before .before .before .before .before .before .before .before .before .before .before .before .before .before), few-spans (c .before .before .before .before .before .before .before .before .before .before .before .before .before .before .before .before .before .before .before .before .before .before .before .before .before .before .before .before .before .before .before .before .before .before .before .before .before))
+    omega (arith, code-small, few .reached, ready (c .before .before .before .before .before .before .before .before .before .before .before .before .before .before .before .before .before .before .before .before .before .before .before .before .before .before .before .before .before .before .before .before .before .before .before .before .before) .listable .small, c .before .before .before .before .before .before .before .before .before .before .before .before .before .before .before .before .before .before .before .before .before .before .before .before .before .before .before .before .before .before .before .before .before .before .before .before .before .call .inv .few-reached, here (c .before .before .before .before .before .before .before .before .before .before .before .before .before .before .before .before .before .before .before .before .before .before .before .before .before .before .before .before .before .before .before .before .before .before .before .before), few-spans (c .before .before .before .before .before .before .before .before .before .before .before .before .before .before .before .before .before .before .before .before .before .before .before .before .before .before .before .before .before .before .before .before .before .before .before .before .before))
 
 add-taken : tie.Need-add-taken Inv-items μ-items Inv-call μ-call
 add-taken c =
     let few = ended-few (walking (c .before .before .before .before .before .before .before .before .before .before .before .before .before .before .before .before .before .before .before .before .before .before)) (ends (c .before .before .before .before .before .before .before .before .before .before .before .before .before .before .before) (c .before .before .before .before .before .before .before .before .before .before .before .before .before .turn2 .given .1)) in
-    omega (arith, few .taken, few-edges _ (ready (c .before .before .before .before .before .before .before .before .before .before .before .before .before .before .before .before .before .before .before .before .before .before .before .before .before .before .before .before .before .before .before .before .before .before .before .before .before .before)) _ (lent (walking (c .before .before .before .before .before .before .before .before .before .before .before .before .before .before .before .before .before .before .before .before .before .before))), c .before .before .before .before .before .before .before .before .before .before .before .before .before .before .before .before .before .before .before .before .before .before .before .before .before .before .before .before .before .before .before .before .before .before .before .before .before .before .call .inv .few-taken, here (c .before .before .before .before .before .before .before .before .before .before .before .before .before .before .before .before .before .before .before .before .before .before .before .before .before .before .before .before .before .before .before .before .before .before .before .before .before), few-spans (c .before .before .before .before .before .before .before .before .before .before .before .before .before .before .before .before .before .before .before .before .before .before .before .before .before .before .before .before .before .before .before .before .before .before .before .before .before .before))
+    omega (arith, room-small, few .taken, few-edges _ (ready (c .before .before .before .before .before .before .before .before .before .before .before .before .before .before .before .before .before .before .before .before .before .before .before .before .before .before .before .before .before .before .before .before .before .before .before .before .before .before)) _ (lent (walking (c .before .before .before .before .before .before .before .before .before .before .before .before .before .before .before .before .before .before .before .before .before .before))), c .before .before .before .before .before .before .before .before .before .before .before .before .before .before .before .before .before .before .before .before .before .before .before .before .before .before .before .before .before .before .before .before .before .before .before .before .before .before .call .inv .few-taken, here (c .before .before .before .before .before .before .before .before .before .before .before .before .before .before .before .before .before .before .before .before .before .before .before .before .before .before .before .before .before .before .before .before .before .before .before .before .before), few-spans (c .before .before .before .before .before .before .before .before .before .before .before .before .before .before .before .before .before .before .before .before .before .before .before .before .before .before .before .before .before .before .before .before .before .before .before .before .before .before))
 
 add-at : tie.Need-add-at Inv-items μ-items Inv-call μ-call
 add-at c = omega (arith, here (c .before .before .before .before .before .before .before .before .before .before .before .before .before .before .before .before .before .before .before .before .before .before .before .before .before .before .before .before .before .before .before .before .before .before .before .before .before), few-spans (c .before .before .before .before .before .before .before .before .before .before .before .before .before .before .before .before .before .before .before .before .before .before .before .before .before .before .before .before .before .before .before .before .before .before .before .before .before .before))
@@ -266,7 +268,7 @@ call-again c =
     let closed = closed-well (c .before .before .before .before .before .before .before .before .close-chunk .ensures) (c .before .before .enum-told .given .1) in
     judging-passes _ _ _ _ _ _ (c .before .before .before .before .before .before .before .before .before .before .before .before .before .before .before .before .before .before .before .before .before .before .before .before .before .before .before .before .before .before .before .before .before .before .before .before .before .before .call .inv) (here (c .before .before .before .before .before .before .before .before .before .before .before .before .before .before .before .before .before .before .before .before .before .before .before .before .before .before .before .before .before .before .before .before .before .before .before .before .before)) (span-there _ _ _ _ (here (c .before .before .before .before .before .before .before .before .before .before .before .before .before .before .before .before .before .before .before .before .before .before .before .before .before .before .before .before .before .before .before .before .before .before .before .before .before)))
     (sym (judged (c .before .before .before .before .before .before .before .before .before .before .before .before .before .before .before .before .before .before .before .before .before .before .before .before .before .before) _) ∙ ended-judged W g _ ∙ rw (closed .low) refl)
-    (omega (arith, few .reached, ready (c .before .before .before .before .before .before .before .before .before .before .before .before .before .before .before .before .before .before .before .before .before .before .before .before .before .before .before .before .before .before .before .before .before .before .before .before .before .before) .listable .small)) (omega (arith, few .taken, few-edges _ (ready (c .before .before .before .before .before .before .before .before .before .before .before .before .before .before .before .before .before .before .before .before .before .before .before .before .before .before .before .before .before .before .before .before .before .before .before .before .before .before)) _ (lent (walking (c .before .before .before .before .before .before .before .before .before .before .before .before .before .before .before .before .before .before .before .before .before .before))))) (closed .stored)
+    (omega (arith, code-small, few .reached, ready (c .before .before .before .before .before .before .before .before .before .before .before .before .before .before .before .before .before .before .before .before .before .before .before .before .before .before .before .before .before .before .before .before .before .before .before .before .before .before) .listable .small)) (omega (arith, room-small, few .taken, few-edges _ (ready (c .before .before .before .before .before .before .before .before .before .before .before .before .before .before .before .before .before .before .before .before .before .before .before .before .before .before .before .before .before .before .before .before .before .before .before .before .before .before)) _ (lent (walking (c .before .before .before .before .before .before .before .before .before .before .before .before .before .before .before .before .before .before .before .before .before .before))))) (closed .stored)
     (ended-records W g (records-kept (c .before .before .before .before .before .before .before .before .before .before .before .before .before .before .before) ∙ W .records-long) (c .before .before .before .before .before .before .before .before .close-chunk .ensures .records-zeroed))
     (ended-work W g (work-kept (c .before .before .before .before .before .before .before .before .before .before .before .before .before .before .before) ∙ W .work-long))
 

@@ -1,6 +1,6 @@
 -- `opening::list_chunk` meets its contract. The loop's measure is how much of the chunk is left.
 use mathlib.Core.Path.{_≡_, sym, _∙_}
-use Prim.Native.Nat.{ℕ, _-_, _≤_, _<_}
+use Prim.Native.Nat.{ℕ, _-_, _^_, _≤_, _<_}
 use native.Mathlib.Omega.{arith}
 use borrow.Author.Needs.{needs}
 use denote.Ref.{now}
@@ -9,6 +9,8 @@ use Rattle.code.specs.Width.{widthOf, widthAt}
 use Rattle.code.proofs.Widths.{Wide, width-there}
 use Rattle.listing.specs.Listing.{Start}
 use Rattle.listing.proofs.Starts.{start-wide}
+use Rattle.pools.specs.Sizes.{maxTargets}
+use Rattle.pools.proofs.Most.{code-small}
 use Rattle.opening.specs.Listing.{targetsAt}
 use Rattle.opening.proofs.Kept.{Kept, few-targets, first-kept, next-kept, kept-length, all-kept, opened-length}
 use Rattle.opening.proofs.list_chunk.Statement.{statement}
@@ -40,10 +42,12 @@ module _ (c : tie.In-loop Inv-loop μ-loop) where
   wide = start-wide widthOf _ starts-there
 
   -- few instructions of few targets each
-  low : c .before .loop .at < 65536
-  low = omega (arith, c .loop-test .taken, start (c .before) .pre .0 .small, start (c .before) .pre .1 .0 .in-code)
+  low : c .before .loop .at < 2 ^ 21
+  low =
+      let pre = start (c .before) .pre in
+      omega (arith, code-small, c .loop-test .taken, pre .0 .small, pre .1 .0 .in-code)
 
-  few : length (targetsAt (now (start (c .before) .args .code)) (now (start (c .before) .args .switches)) (now (start (c .before) .args .cases)) (now (start (c .before) .args .ranges)) (c .before .loop .at)) ≤ 131073
+  few : length (targetsAt (now (start (c .before) .args .code)) (now (start (c .before) .args .switches)) (now (start (c .before) .args .cases)) (now (start (c .before) .args .ranges)) (c .before .loop .at)) ≤ maxTargets
   few = few-targets _ _ _ _ (start (c .before) .pre .0) starts-there
 
   -- the width that its tag has
@@ -82,7 +86,9 @@ told : (c : tie.After-width-in Inv-loop μ-loop) → c .width-in .result ≡ wid
 told c = c .width-in .ensures _ (c .before .before .before .before .before .word-at .ensures)
 
 add-at : tie.Need-add-at Inv-loop μ-loop
-add-at c = let w = as-wide (turn c) _ (told c) in omega (arith, w .within, start (turn c .before) .pre .0 .small)
+add-at c =
+    let w = as-wide (turn c) _ (told c) in
+    omega (arith, w .within, start (turn c .before) .pre .0 .small, code-small)
 
 loop-less : tie.Need-loop-less Inv-loop μ-loop
 loop-less c = let w = as-wide (turn c) _ (told c) in omega (arith, w .some, turn c .loop-test .taken)

@@ -6,6 +6,7 @@ use native.Mathlib.Omega.{arith}
 use borrow.Author.Needs.{needs}
 use lib.ListN.{length}
 use Rattle.code.specs.Layout.{tagAt}
+use Rattle.pools.proofs.Most.{code-small}
 use Rattle.rules.specs.Shapes.{simple, Flow}
 use Rattle.rules.proofs.Amounts.{chain-entry-of}
 use Rattle.rules.proofs.Simple.{simple-flow, simple-lacks}
@@ -24,10 +25,10 @@ within : (c : tie.After-width-in) → start c .args .at + c .width-in .result �
 within c = next-within _ _ (start c .pre .1 .0) (c .width-in .ensures _ (start c .pre .0))
 
 add-next : tie.Need-add-next
-add-next c = omega (arith, within c, start c .pre .1 .1 .1 .1 .0)
+add-next c = omega (arith, within c, start c .pre .1 .1 .1 .1 .0, code-small)
 
 cast-next : tie.Need-cast-next
-cast-next c = omega (arith, within c, start c .pre .1 .1 .1 .1 .0)
+cast-next c = omega (arith, within c, start c .pre .1 .1 .1 .1 .0, code-small)
 
 is-simple-requires : tie.Need-is-simple-requires
 is-simple-requires c κs = search needs

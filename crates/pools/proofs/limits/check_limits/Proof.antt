@@ -1,55 +1,43 @@
 -- `pools::limits::check_limits` meets its contract: the limits before the one at hand are kept.
-use mathlib.Core.Path.{_∙_}
 use Prim.Native.Nat.{_-_}
 use native.Mathlib.Omega.{arith}
-use borrow.Author.Tests.{lt-ltb, le-ltb}
-use Rattle.pools.specs.Sizes.{maxCode, numbered}
-use Rattle.pools.proofs.First.{Passed, none-yet, one-more, at-bad, past-last}
-use Rattle.pools.proofs.LimitLaws.{how-many, overAt, overTold, by-index}
+use lib.ListN.{length}
+use Rattle.pools.specs.Sizes.{maxCode, limits, numbered}
+use Rattle.pools.proofs.LimitLaws.{Passed, none-yet, one-more, at-exceeded, past-last}
 use Rattle.pools.proofs.limits.check_limits.Statement.{statement}
 use Rattle.pools.proofs.limits.check_limits.Tie as tie
 
 abbrev Inv-loop : tie.InvT-loop
-Inv-loop counts limit₀ limit = Passed overTold (overAt counts) how-many limit
+Inv-loop limits at₀ at = Passed limits at
 
 abbrev μ-loop : tie.MeasureT-loop
-μ-loop counts limit₀ limit = how-many - limit
+μ-loop limits at₀ at = length limits - at
 
 loop-holds : tie.Need-loop-holds Inv-loop μ-loop
 loop-holds c = none-yet
 
-mul-if1 : tie.Need-mul-if1 Inv-loop μ-loop
-mul-if1 c = omega arith
+mul-limit : tie.Need-mul-limit Inv-loop μ-loop
+mul-limit c = omega arith
 
-array-read-if1 : tie.Need-array-read-if1 Inv-loop μ-loop
-array-read-if1 c = omega arith
-
-mul-if1-2 : tie.Need-mul-if1-2 Inv-loop μ-loop
-mul-if1-2 c = omega arith
-
-array-read-if1-2 : tie.Need-array-read-if1-2 Inv-loop μ-loop
-array-read-if1-2 c = omega arith
-
-add-t15 : tie.Need-add-t15 Inv-loop μ-loop
-add-t15 c = omega arith
+array-copy-out-limit : tie.Need-array-copy-out-limit Inv-loop μ-loop
+array-copy-out-limit c = omega arith
 
 returns : tie.Need-returns Inv-loop μ-loop
-unfolding numbered maxCode
-returns c = at-bad (c .before .before .loop .inv) (omega arith) (lt-ltb _ _ (c .if1 .taken)) ∙ by-index _
+unfolding numbered limits maxCode
+returns c = at-exceeded (c .before .before .before .loop .inv) _ (omega arith) (c .if1 .taken)
 
-add-limit : tie.Need-add-limit Inv-loop μ-loop
-add-limit c = omega arith
+add-at : tie.Need-add-at Inv-loop μ-loop
+add-at c = omega arith
 
 loop-less : tie.Need-loop-less Inv-loop μ-loop
 loop-less c = omega arith
 
 loop-again : tie.Need-loop-again Inv-loop μ-loop
-unfolding maxCode
-loop-again c = one-more (c .before .before .loop .inv) (omega arith) (le-ltb _ _ (c .if1 .left))
+loop-again c = one-more (c .before .before .before .loop .inv) _ (omega arith) (c .if1 .left)
 
 returns-2 : tie.Need-returns-2 Inv-loop μ-loop
-unfolding numbered
-returns-2 c = past-last (c .before .loop .inv) (omega arith) ∙ by-index _
+unfolding numbered limits maxCode
+returns-2 c = past-last (c .before .loop .inv) (omega arith)
 
 pub check-limits-spec : {M : Type 1} → statement M
 check-limits-spec =
@@ -58,13 +46,10 @@ check-limits-spec =
     Inv-loop
     μ-loop
     loop-holds
-    mul-if1
-    array-read-if1
-    mul-if1-2
-    array-read-if1-2
-    add-t15
+    mul-limit
+    array-copy-out-limit
     returns
-    add-limit
+    add-at
     loop-less
     loop-again
     returns-2)

@@ -2,7 +2,7 @@
 use mathlib.Core.Path.{sym, _∙_}
 use Prim.Native.Nat.{_-_}
 use native.Mathlib.Omega.{arith}
-use Rattle.pools.specs.Pools.{whole, chainAt}
+use Rattle.pools.specs.Pools.{chainAt, chainsIn}
 use Rattle.pools.specs.Tables.{numbered, badChain}
 use Rattle.pools.specs.Told.{badTable}
 use Rattle.pools.proofs.First.{Passed, none-yet, one-more, at-bad, past-last}
@@ -10,10 +10,11 @@ use Rattle.pools.proofs.tables.check_chains.Statement.{statement}
 use Rattle.pools.proofs.tables.check_chains.Tie as tie
 
 abbrev Inv-loop : tie.InvT-loop
-Inv-loop chains steps entry₀ entry = Passed (badTable 1) (λ i. badChain steps (chainAt chains i)) (whole 7 chains) entry
+Inv-loop chains steps entry₀ entry =
+    Passed (badTable 1) (λ i. badChain steps (chainAt chains i)) (chainsIn chains) entry
 
 abbrev μ-loop : tie.MeasureT-loop
-μ-loop chains steps entry₀ entry = whole 7 chains - entry
+μ-loop chains steps entry₀ entry = chainsIn chains - entry
 
 loop-holds : tie.Need-loop-holds Inv-loop μ-loop
 loop-holds c = none-yet
@@ -23,7 +24,9 @@ chain-is-bad-requires c κs = omega arith
 
 returns : tie.Need-returns Inv-loop μ-loop
 unfolding numbered
-returns c = at-bad (c .before .before .before .loop .inv) (omega arith) (sym (c .before .chain-is-bad .ensures) ∙ c .if1 .taken)
+returns c =
+    at-bad (c .before .before .before .loop .inv) (omega arith)
+    (sym (c .before .chain-is-bad .ensures) ∙ c .if1 .taken)
 
 add-entry : tie.Need-add-entry Inv-loop μ-loop
 add-entry c = omega arith
@@ -32,7 +35,9 @@ loop-less : tie.Need-loop-less Inv-loop μ-loop
 loop-less c = omega arith
 
 loop-again : tie.Need-loop-again Inv-loop μ-loop
-loop-again c = one-more (c .before .before .before .loop .inv) (omega arith) (sym (c .before .chain-is-bad .ensures) ∙ c .if1 .left)
+loop-again c =
+    one-more (c .before .before .before .loop .inv) (omega arith)
+    (sym (c .before .chain-is-bad .ensures) ∙ c .if1 .left)
 
 returns-2 : tie.Need-returns-2 Inv-loop μ-loop
 unfolding numbered

@@ -2,7 +2,7 @@
 use mathlib.Core.Path.{sym, _∙_}
 use Prim.Native.Nat.{_-_}
 use native.Mathlib.Omega.{arith}
-use Rattle.pools.specs.Pools.{whole, stepAt}
+use Rattle.pools.specs.Pools.{stepAt, stepsIn}
 use Rattle.pools.specs.Tables.{numbered, badStep}
 use Rattle.pools.specs.Told.{badTable}
 use Rattle.pools.proofs.First.{Passed, none-yet, one-more, at-bad, past-last}
@@ -10,10 +10,10 @@ use Rattle.pools.proofs.tables.check_steps.Statement.{statement}
 use Rattle.pools.proofs.tables.check_steps.Tie as tie
 
 abbrev Inv-loop : tie.InvT-loop
-Inv-loop steps entry₀ entry = Passed (badTable 2) (λ i. badStep (stepAt steps i)) (whole 4 steps) entry
+Inv-loop steps entry₀ entry = Passed (badTable 2) (λ i. badStep (stepAt steps i)) (stepsIn steps) entry
 
 abbrev μ-loop : tie.MeasureT-loop
-μ-loop steps entry₀ entry = whole 4 steps - entry
+μ-loop steps entry₀ entry = stepsIn steps - entry
 
 loop-holds : tie.Need-loop-holds Inv-loop μ-loop
 loop-holds c = none-yet
@@ -23,7 +23,9 @@ step-is-bad-requires c κs = omega arith
 
 returns : tie.Need-returns Inv-loop μ-loop
 unfolding numbered
-returns c = at-bad (c .before .before .before .loop .inv) (omega arith) (sym (c .before .step-is-bad .ensures) ∙ c .if1 .taken)
+returns c =
+    at-bad (c .before .before .before .loop .inv) (omega arith)
+    (sym (c .before .step-is-bad .ensures) ∙ c .if1 .taken)
 
 add-entry : tie.Need-add-entry Inv-loop μ-loop
 add-entry c = omega arith
@@ -32,7 +34,9 @@ loop-less : tie.Need-loop-less Inv-loop μ-loop
 loop-less c = omega arith
 
 loop-again : tie.Need-loop-again Inv-loop μ-loop
-loop-again c = one-more (c .before .before .before .loop .inv) (omega arith) (sym (c .before .step-is-bad .ensures) ∙ c .if1 .left)
+loop-again c =
+    one-more (c .before .before .before .loop .inv) (omega arith)
+    (sym (c .before .step-is-bad .ensures) ∙ c .if1 .left)
 
 returns-2 : tie.Need-returns-2 Inv-loop μ-loop
 unfolding numbered

@@ -2,31 +2,34 @@
 use mathlib.Core.Path.{sym, ap, _∙_}
 use native.Mathlib.Omega.{arith}
 use borrow.Author.Needs.{needs}
+use Rattle.pools.specs.Pools.{chainWords, stepWords, switchWords, caseWords}
 use Rattle.pools.specs.Tables.{numbered}
-use Rattle.pools.proofs.TableLaws.{left-over, none-over, ragged-chains, ragged-steps, ragged-switches, ragged-cases, NoneRagged, in-chains, in-steps, in-switches}
+use Rattle.pools.proofs.TableLaws.{left-over, none-over}
+use Rattle.pools.proofs.TableLaws.{ragged-chains, ragged-steps, ragged-switches, ragged-cases}
+use Rattle.pools.proofs.TableLaws.{NoneRagged, in-chains, in-steps, in-switches}
 use Rattle.pools.proofs.tables.check_tables.Statement.{statement}
 use Rattle.pools.proofs.tables.check_tables.Tie as tie
 
 returns : tie.Need-returns
 unfolding numbered
-returns c = ragged-chains _ _ _ _ _ (left-over 7 _ (omega arith))
+returns c = ragged-chains _ _ _ _ _ (left-over chainWords _ (omega arith))
 
 returns-2 : tie.Need-returns-2
 unfolding numbered
-returns-2 c = ragged-steps _ _ _ _ _ (none-over 7 _ (omega arith)) (left-over 4 _ (omega arith))
+returns-2 c = ragged-steps _ _ _ _ _ (none-over chainWords _ (omega arith)) (left-over stepWords _ (omega arith))
 
 returns-3 : tie.Need-returns-3
 unfolding numbered
 returns-3 c =
     ragged-switches _ _ _ _ _
-    (none-over 7 _ (omega arith)) (none-over 4 _ (omega arith)) (left-over 5 _ (omega arith))
+    (none-over chainWords _ (omega arith)) (none-over stepWords _ (omega arith)) (left-over switchWords _ (omega arith))
 
 returns-4 : tie.Need-returns-4
 unfolding numbered
 returns-4 c =
     ragged-cases _ _ _ _ _
-    (none-over 7 _ (omega arith)) (none-over 4 _ (omega arith))
-    (none-over 5 _ (omega arith)) (left-over 2 _ (omega arith))
+    (none-over chainWords _ (omega arith)) (none-over stepWords _ (omega arith))
+    (none-over switchWords _ (omega arith)) (left-over caseWords _ (omega arith))
 
 -- after the four tests no table is ragged
 module _ (c : tie.Else4) where
@@ -36,10 +39,10 @@ module _ (c : tie.Else4) where
   none-ragged : NoneRagged (start .args .chains .now) (start .args .steps .now) (start .args .switches .now)
       (start .args .cases .now) (start .args .ranges .now)
   none-ragged = record {
-    chains-whole = none-over 7 _ (omega arith);
-    steps-whole = none-over 4 _ (omega arith);
-    switches-whole = none-over 5 _ (omega arith);
-    cases-whole = none-over 2 _ (omega arith);
+    chains-whole = none-over chainWords _ (omega arith);
+    steps-whole = none-over stepWords _ (omega arith);
+    switches-whole = none-over switchWords _ (omega arith);
+    cases-whole = none-over caseWords _ (omega arith);
   }
 
 check-chains-requires : tie.Need-check-chains-requires

@@ -1,4 +1,5 @@
--- `pools::tables::reaches_past` meets its contract: two words of 32 bits fit 64 together, so the sum is the definition's.
+-- `pools::tables::reaches_past` meets its contract: two words of 32 bits fit 64 together, so the sum is the
+-- definition's.
 use mathlib.Core.Path.{refl}
 use native.Mathlib.Omega.{arith}
 use Rattle.pools.proofs.tables.reaches_past.Statement.{statement}
