@@ -62,3 +62,8 @@ numbered chunk (HandlerUnderflow at) = refusal 16 chunk at 0 0
 unfoldable pub told : Outcome → Option Answer
 told Passed = none
 told (Refused answer) = some answer
+
+-- a test comes first: its refusal, in the form that is asked for, or what comes after the test
+unfoldable pub unless : {B : Type 0} → (Answer → B) → Option Answer → B → B
+unless refuse none rest = rest
+unless refuse (some answer) rest = refuse answer

@@ -17,8 +17,9 @@ use Rattle.pools.specs.Pools.{entries}
 use Rattle.pools.specs.Sizes.{maxCode, limits, tells, firstOver}
 use Rattle.pools.specs.Tables as tables
 use Rattle.pools.specs.Told as told
-use Rattle.answer.specs.Answer.{numbered}
-use Rattle.demand.specs.Chunk.{measured, walked, judgeChunk}
+use Rattle.answer.specs.Answer.{numbered, unless}
+use Rattle.demand.specs.Chunk.{spanTest, openTest, heightTest, measured, walked, judgeChunk}
+use Rattle.demand.specs.Chunk as chunk
 use Rattle.answer.specs.Depths.{agree}
 use Rattle.rules.specs.Edges.{falls, plain, armsOf, targetsOf, afterOf, jumpedOf, next, degree}
 use Rattle.demand.specs.Span.{T, E}
@@ -27,13 +28,13 @@ use Rattle.machine.specs.Lists.{_∈_, here, there, sumOf}
 use Rattle.machine.specs.Machine.{fallTo}
 use Rattle.rules.specs.Needs.{iteratorsNeeded, handlersNeeded}
 use Rattle.rules.specs.Rights.{required, lacking, ofName, ofChain}
-use Rattle.demand.specs.Rule.{allTargets, rule, judge}
+use Rattle.demand.specs.Rule.{allTargets, needsTest, rule, judge}
 use Rattle.machine.specs.Walk.{push, firstBad, seen, turn, run, lookup}
-use Rattle.verify.specs.Call.{verdictOn, marksOn, concluded, onward, outcome}
+use Rattle.verify.specs.Call.{verdictOn, marksOn, afterChunks, afterLateTests, afterEarlyTests}
 use Rattle.judging.specs.Judging.{judgeAll}
 
 computed : map answered bench ≡ map expected bench
-unfolding first limitsTest tablesTest roomTest rightsTest constantsTest functionTest widthTest indicesTest codeTest earlyTests lateTests marksOf word answered among layout countFrom indicesFrom little widthOf toldBy reference.firstBad reference.sizeOf reference.inCode reference.inRecord startsBy startsBefore walkFor marked markedAll total entries maxCode limits tells firstOver tables.ragged tables.wholeTable tables.firstBad told.first told.firstFrom numbered measured walked judgeChunk agree falls plain armsOf targetsOf afterOf jumpedOf next degree T E effect operandsOf needs pops pushes sumOf fallTo iteratorsNeeded handlersNeeded required lacking ofName ofChain allTargets rule judge push firstBad seen turn run lookup verdictOn marksOn concluded onward outcome judgeAll ones
+unfolding first limitsTest tablesTest roomTest rightsTest constantsTest functionTest widthTest indicesTest codeTest earlyTests lateTests marksOf word answered among layout countFrom indicesFrom little widthOf toldBy reference.firstBad reference.sizeOf reference.inCode reference.inRecord startsBy startsBefore walkFor marked markedAll total entries maxCode limits tells firstOver tables.ragged tables.wholeTable tables.firstBad told.first told.firstFrom numbered unless spanTest chunk.roomTest openTest heightTest measured walked judgeChunk agree falls plain armsOf targetsOf afterOf jumpedOf next degree T E effect operandsOf needs pops pushes sumOf fallTo iteratorsNeeded handlersNeeded required lacking ofName ofChain allTargets needsTest rule judge push firstBad seen turn run lookup verdictOn marksOn afterChunks afterLateTests afterEarlyTests judgeAll ones
 computed = refl
 
 -- lists that are equal under two functions have the same of both at each element

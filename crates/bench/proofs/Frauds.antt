@@ -1,17 +1,23 @@
--- No fraud of document 01 meets the contract of the whole call: for each there is an input on which whatever meets it differs
--- from what the fraud gives, in the field that is named.
+-- No fraud of document 01 meets the contract of the whole call: for each but the last there is an input on which
+-- whatever meets it differs from what the fraud gives, and counts are those of paths on every input.
 use mathlib.Core.List.{List, [], _∷_, _++_}
 use mathlib.Core.Path.{_≡_, refl, ap, _∙_}
 use Prim.Native.Nat.{ℕ}
 use native.Mathlib.Omega.{arith}
 use lib.ListN.{getD}
 use Rattle.bench.proofs.Bench.{answers}
-use Rattle.bench.specs.Bench.{Row, answered, documented, bench, lent, p1, p6, two, spoiled, counted}
-use Rattle.bench.specs.Frauds.{Comes, Refuses, OneHeight, StoresNothing, in-marks, in-records, in-work, FirstOnly, in-kind, Invents, of-instructions, of-reached, of-taken}
-use Rattle.bench.specs.Frauds as fraud
+use Rattle.bench.specs.Bench.{Row, input, answered, documented, bench, lent, part, p1, p6, two, spoiled}
+use Rattle.bench.specs.Frauds.{Comes, ChangesAll, OtherCounts, of-instructions, of-reached, of-taken}
+use Rattle.bench.specs.Frauds.{Verifier, Meets, RefusesEverything, OneHeight, StoresNothing}
+use Rattle.bench.specs.Frauds.{FirstOnly, in-kinds, in-heights, Invents}
+use Rattle.before.specs.Input.{Input}
 use Rattle.answer.specs.declared.verdict.Verdict.{Verdict}
 use Rattle.machine.specs.Lists.{_∈_, here, there}
-use Rattle.verify.specs.Call.{Memory}
+use Rattle.demand.specs.Span.{Span}
+use Rattle.verify.specs.Accounts.{Accounted}
+use Rattle.verify.specs.Call.{Memory, result, Calls}
+use Rattle.verify.proofs.Accounts.{reached-once, taken-once}
+use Rattle.verify.proofs.Demand.{an-outcome}
 
 -- ---- what comes of a row of the table
 
@@ -52,35 +58,29 @@ two-there = behind documented (here refl)
 spoiled-there : spoiled ∈ bench
 spoiled-there = behind documented (there (here refl))
 
-counted-there : counted ∈ bench
-counted-there = behind documented (there (there (here refl)))
+-- ---- on which rows the frauds show
 
--- ---- the five
-
--- P1 is accepted
+-- P1 and P6 are accepted; P1 has the height 1, and P6 has 0
 pub p1-accepted : {r : Verdict} {after : Memory} → Comes p1 r after → r .kind ≡ 0
 p1-accepted c = told p1 p1-there c (λ v. v .kind)
 
-pub never-refuses : {r : Verdict} {after : Memory} → Comes p1 r after → ¬ Refuses r
-never-refuses c fraud = fraud (p1-accepted c)
+pub p6-accepted : {r : Verdict} {after : Memory} → Comes p6 r after → r .kind ≡ 0
+p6-accepted c = told p6 p6-there c (λ v. v .kind)
 
--- P1 has the height 1, and P6 has 0
 pub p1-height : {r : Verdict} {after : Memory} → Comes p1 r after → getD (after .heights) 0 0 ≡ 1
 p1-height c = holds p1 p1-there c (λ m. m .heights) 0
 
 pub p6-height : {r : Verdict} {after : Memory} → Comes p6 r after → getD (after .heights) 0 0 ≡ 0
 p6-height c = holds p6 p6-there c (λ m. m .heights) 0
 
-pub never-one-height : (height : ℕ) {r r′ : Verdict} {after after′ : Memory}
-    → Comes p1 r after → Comes p6 r′ after′ → ¬ OneHeight height after after′
-never-one-height height c c′ fraud = omega (arith, fraud .once, fraud .again, p1-height c, p6-height c′)
-
 -- P1 changes every buffer: an element of each shows it
-pub never-stores-nothing : {r : Verdict} {after : Memory} → Comes p1 r after → ¬ StoresNothing lent after
-never-stores-nothing c (in-marks e) = omega (arith, same 1 e, holds p1 p1-there c (λ m. m .marks) 1)
-never-stores-nothing c (fraud.in-heights e) = omega (arith, same 0 e, holds p1 p1-there c (λ m. m .heights) 0)
-never-stores-nothing c (in-records e) = omega (arith, same 0 e, holds p1 p1-there c (λ m. m .records) 0)
-never-stores-nothing c (in-work e) = omega (arith, same 0 e, holds p1 p1-there c (λ m. m .work) 0)
+pub p1-changes : {r : Verdict} {after : Memory} → Comes p1 r after → ChangesAll lent after
+p1-changes c = record {
+  marks = λ e. omega (arith, same 1 e, holds p1 p1-there c (λ m. m .marks) 1);
+  heights = λ e. omega (arith, same 0 e, holds p1 p1-there c (λ m. m .heights) 0);
+  records = λ e. omega (arith, same 0 e, holds p1 p1-there c (λ m. m .records) 0);
+  work = λ e. omega (arith, same 0 e, holds p1 p1-there c (λ m. m .work) 0);
+}
 
 -- the second of two chunks has its own height; and where it is bad, it is refused under its own number
 pub second-height : {r : Verdict} {after : Memory} → Comes two r after → getD (after .heights) 1 0 ≡ 2
@@ -89,12 +89,58 @@ second-height c = holds two two-there c (λ m. m .heights) 1
 pub second-refused : {r : Verdict} {after : Memory} → Comes spoiled r after → (r .kind ≡ 12) × (r .chunk ≡ 1)
 second-refused c = (told spoiled spoiled-there c (λ v. v .kind), told spoiled spoiled-there c (λ v. v .chunk))
 
-pub never-first-only : {r r′ : Verdict} {after after′ : Memory} → Comes two r after → Comes spoiled r′ after′ → ¬ FirstOnly r r′ after after′
-never-first-only c c′ (in-kind e) = omega (arith, e, told two two-there c (λ v. v .kind), second-refused c′ .0)
-never-first-only c c′ (fraud.in-heights e) = omega (arith, same 1 e, second-height c, holds spoiled spoiled-there c′ (λ m. m .heights) 1)
+-- on any input the counts of an acceptance are those of the code and of its paths
+pub counts-by-paths : {I : Input} {spans : List Span} {before : Memory} {r : Verdict} {after : Memory}
+    → Calls I spans before r after → r .kind ≡ 0 → ¬ OtherCounts (I .script) spans r
+counts-by-paths {I} {spans} {before} {r} {after} c z = go
+  where
+    counts : Accounted (I .script) spans (after .heights) r
+    counts = c .accepted z
 
--- the counts are those of the instructions, of the starts on a path, and of the edges out of them with one more
-pub never-invents : {r : Verdict} {after : Memory} → Comes counted r after → ¬ Invents 9 7 8 r
-never-invents c (of-instructions other) = other (told counted counted-there c (λ v. v .instructions))
-never-invents c (of-reached other) = other (told counted counted-there c (λ v. v .reached))
-never-invents c (of-taken other) = other (told counted counted-there c (λ v. v .taken))
+    go : ¬ OtherCounts (I .script) spans r
+    go (of-instructions other) = other (counts .instructions)
+    go (of-reached m other) = other (counts .reached ∙ reached-once (counts .measured) m)
+    go (of-taken m other) = other (counts .taken ∙ taken-once (counts .measured) m)
+
+-- ---- the five
+
+-- the contract can be met: by the definition itself
+pub definition-meets : Meets (λ I spans before. result I spans before)
+definition-meets I spans before every = an-outcome I spans before every
+
+module _ (ask : Verifier) (meets : Meets ask) where
+  on : (row : Row) → Comes row (ask (input row) (row .spans) lent .verdict) (ask (input row) (row .spans) lent .memory)
+  on row = meets (input row) (row .spans) lent refl
+
+  pub never-refuses-everything : ¬ RefusesEverything ask
+  never-refuses-everything fraud = fraud (input p1) (p1 .spans) lent (p1-accepted (on p1))
+
+  pub never-one-height : ¬ OneHeight ask
+  never-one-height fraud =
+      let in-p1 = fraud .always (input p1) (p1 .spans) lent (p1-accepted (on p1)) 0 (omega arith) in
+      let in-p6 = fraud .always (input p6) (p6 .spans) lent (p6-accepted (on p6)) 0 (omega arith) in
+      omega (arith, in-p1, in-p6, p1-height (on p1), p6-height (on p6))
+
+  pub never-stores-nothing : ¬ StoresNothing ask
+  never-stores-nothing fraud = p1-changes (on p1) .marks (fraud .marks-kept (input p1) (p1 .spans) lent)
+
+  pub never-first-only : ¬ FirstOnly ask
+  never-first-only (in-kinds fraud) =
+      omega (
+        arith,
+        fraud (input two) (part 0 2) (part 2 6 ∷ []) (part 1 2 ∷ []) lent refl,
+        told two two-there (on two) (λ v. v .kind),
+        second-refused (on spoiled) .0,
+      )
+  never-first-only (in-heights fraud) =
+      omega (
+        arith,
+        same 1 (fraud (input two) (part 0 2) (part 2 6 ∷ []) (part 1 2 ∷ []) lent refl),
+        second-height (on two),
+        holds spoiled spoiled-there (on spoiled) (λ m. m .heights) 1,
+      )
+
+  pub never-invents : ¬ Invents ask
+  never-invents fraud =
+      let c = meets (fraud .asked) (fraud .spans) (fraud .before) (fraud .every-chunk) in
+      counts-by-paths c (fraud .accepted) (fraud .invented)

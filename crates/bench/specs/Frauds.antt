@@ -1,41 +1,79 @@
--- The five frauds of document 01, "Holding the promises to account": "a verifier that refuses everything, one that answers one
--- height always, one that stores nothing [...]; one that judges only the first chunk (each height is its own chunk's); counts
--- invented". Each is said of what shows of it: verdicts, and memory after them.
+-- The five frauds of document 01, "Holding the promises to account": "a verifier that refuses everything, one that
+-- answers one height always, one that stores nothing [...]; one that judges only the first chunk (each height is its
+-- own chunk's); counts invented (reached and taken are defined by paths)". Each is said of a verifier, by what it
+-- gives for every input, or, where one input is enough, for one.
+use mathlib.Core.List.{List, _∷_}
 use mathlib.Core.Logic.{_≢_}
 use mathlib.Core.Path.{_≡_}
-use Prim.Native.Nat.{ℕ}
-use lib.ListN.{getD}
+use Prim.Native.Nat.{ℕ, _<_}
+use lib.ListN.{length, getD}
+use Rattle.before.specs.Input.{Input}
 use Rattle.bench.specs.Bench.{Row, input, lent}
+use Rattle.listing.specs.Listing.{starts}
 use Rattle.answer.specs.declared.verdict.Verdict.{Verdict}
-use Rattle.verify.specs.Call.{Memory, Calls}
+use Rattle.rules.specs.Script.{Script}
+use Rattle.demand.specs.Span.{Span}
+use Rattle.verify.specs.Accounts.{sumBelow, Measured}
+use Rattle.verify.specs.Call.{Memory, Result, Calls}
 
 -- a call on what a row asks may come to this verdict and this memory
 abbrev pub Comes : Row → Verdict → Memory → Type 0
 Comes row r after = Calls (input row) (row .spans) lent r after
 
--- refuses everything: this too
-abbrev pub Refuses : Verdict → Type 0
-Refuses r = r .kind ≢ 0
+-- no buffer is as it was
+pub record ChangesAll (before after : Memory) : Type 0 where
+  pub marks : after .marks ≢ before .marks
+  pub heights : after .heights ≢ before .heights
+  pub records : after .records ≢ before .records
+  pub work : after .work ≢ before .work
 
--- answers one height always: this one, after two calls
-pub record OneHeight (height : ℕ) (after after′ : Memory) : Type 0 where
-  pub once : getD (after .heights) 0 0 ≡ height
-  pub again : getD (after′ .heights) 0 0 ≡ height
+-- counts that are not those of the code and of the paths of its chunks, whatever these are measured by
+pub data OtherCounts (S : Script) (spans : List Span) (r : Verdict) : Type 0 where
+  of-instructions : r .instructions ≢ length (starts (S .code)) → OtherCounts S spans r
+  of-reached : {heights : List ℕ} (m : Measured S spans (length spans) heights)
+      → r .reached ≢ sumBelow (m .reached-in) (length spans) → OtherCounts S spans r
+  of-taken : {heights : List ℕ} (m : Measured S spans (length spans) heights)
+      → r .taken ≢ sumBelow (m .taken-in) (length spans) → OtherCounts S spans r
 
--- stores nothing: one of the buffers at least is as it was
-pub data StoresNothing (before after : Memory) : Type 0 where
-  in-marks : after .marks ≡ before .marks → StoresNothing before after
-  in-heights : after .heights ≡ before .heights → StoresNothing before after
-  in-records : after .records ≡ before .records → StoresNothing before after
-  in-work : after .work ≡ before .work → StoresNothing before after
+-- a verifier: its verdict, and the memory with it, for whatever is asked and lent
+abbrev pub Verifier : Type 0
+Verifier = Input → List Span → Memory → Result
 
--- judges only the first chunk: after two calls that differ in their second chunk alone, the kind or the heights are the same
-pub data FirstOnly (r r′ : Verdict) (after after′ : Memory) : Type 0 where
-  in-kind : r .kind ≡ r′ .kind → FirstOnly r r′ after after′
-  in-heights : after .heights ≡ after′ .heights → FirstOnly r r′ after after′
+module _ (ask : Verifier) where
+  -- it meets the contract of the call, wherever the input says how many chunks there are
+  abbrev pub Meets : Type 0
+  Meets = (I : Input) (spans : List Span) (before : Memory) → I .chunks ≡ length spans
+      → Calls I spans before (ask I spans before .verdict) (ask I spans before .memory)
 
--- invents counts: one of them is not what it should be
-pub data Invents (instructions reached taken : ℕ) (r : Verdict) : Type 0 where
-  of-instructions : r .instructions ≢ instructions → Invents instructions reached taken r
-  of-reached : r .reached ≢ reached → Invents instructions reached taken r
-  of-taken : r .taken ≢ taken → Invents instructions reached taken r
+  -- it refuses everything
+  abbrev pub RefusesEverything : Type 0
+  RefusesEverything = (I : Input) (spans : List Span) (before : Memory) → ask I spans before .verdict .kind ≢ 0
+
+  -- it answers one height always
+  pub record OneHeight : Type 0 where
+    pub height : ℕ
+    pub always : (I : Input) (spans : List Span) (before : Memory) → ask I spans before .verdict .kind ≡ 0
+        → (i : ℕ) → i < length spans → getD (ask I spans before .memory .heights) i 0 ≡ height
+
+  -- it stores nothing: marks and heights are after every call what they were before it
+  pub record StoresNothing : Type 0 where
+    pub marks-kept : (I : Input) (spans : List Span) (before : Memory)
+        → ask I spans before .memory .marks ≡ before .marks
+    pub heights-kept : (I : Input) (spans : List Span) (before : Memory)
+        → ask I spans before .memory .heights ≡ before .heights
+
+  -- it judges only the first chunk: whichever others stand behind it, the kind is the same, or the heights are
+  pub data FirstOnly : Type 0 where
+    in-kinds : ((I : Input) (span : Span) (spans spans′ : List Span) (before : Memory) → length spans ≡ length spans′
+        → ask I (span ∷ spans) before .verdict .kind ≡ ask I (span ∷ spans′) before .verdict .kind) → FirstOnly
+    in-heights : ((I : Input) (span : Span) (spans spans′ : List Span) (before : Memory) → length spans ≡ length spans′
+        → ask I (span ∷ spans) before .memory .heights ≡ ask I (span ∷ spans′) before .memory .heights) → FirstOnly
+
+  -- it invents counts, of one call at least that it accepts
+  pub record Invents : Type 0 where
+    pub asked : Input
+    pub spans : List Span
+    pub before : Memory
+    pub every-chunk : asked .chunks ≡ length spans
+    pub accepted : ask asked spans before .verdict .kind ≡ 0
+    pub invented : OtherCounts (asked .script) spans (ask asked spans before .verdict)

@@ -1,11 +1,11 @@
 -- The customer's third demand, of a chunk that passed every check before its walk: it is accepted exactly when depths can be
 -- written beside its starts, the height and the counts are those of its paths, a refusal is real, and the height is the least
 -- that can be declared.
-use mathlib.Core.Bool.{Bool, true, false, cond}
+use mathlib.Core.Bool.{Bool, true, false}
 use mathlib.Core.List.{List, []}
 use mathlib.Core.Logic.{_⊎_, inl, inr, _↔_}
-use mathlib.Core.Option.{Option}
-use mathlib.Core.Path.{_≡_, refl, ap, _∙_}
+use mathlib.Core.Option.{Option, none, some}
+use mathlib.Core.Path.{_≡_, refl, sym, ap, _∙_}
 use Prim.Native.Nat.{ℕ, _+_, _*_, _≤_, _<_}
 use native.Mathlib.Omega.{arith}
 use borrow.Author.Tests.{ltb-true, ltb-false, le-ltb}
@@ -13,10 +13,12 @@ use lib.Dec.{ltb}
 use lib.ListN.{length}
 use Rattle.code.specs.Width.{widthOf}
 use Rattle.listing.proofs.Before.{before-few}
+use Rattle.answer.specs.Answer.{unless}
 use Rattle.answer.specs.declared.Answer.{Answer}
 use Rattle.answer.specs.declared.Answer.the-variants.{StackExceedsDeclared}
 use Rattle.answer.specs.declared.Depths.{Depths}
-use Rattle.demand.specs.Chunk.{Judged, passes, fails, measured, walked, judgeChunk, Accepted, redeclared, BeforeWalk}
+use Rattle.demand.specs.Chunk.{spanTest, roomTest, openTest, Judged, passes, fails, heightTest, measured}
+use Rattle.demand.specs.Chunk.{walked, judgeChunk, Accepted, redeclared, BeforeWalk}
 use Rattle.answer.specs.Depths.{Item}
 use Rattle.demand.specs.Span.{T, E, chunkStarts}
 use Rattle.rules.specs.Edges.{degree}
@@ -39,6 +41,44 @@ use Rattle.machine.proofs.Paths as machine
 use Rattle.machine.proofs.Refusals.{real}
 use Rattle.demand.proofs.Ties.{agrees, path-of, reached-of, written-reached, writing-of, written-of, real-of}
 
+-- ---- a test of a chunk: where it refuses, the chunk fails by it, and else what comes after it decides
+
+module _ {t : Option Answer} (rest : Judged) where
+  pub fails-by : {a : Answer} → t ≡ some a → unless fails t rest ≡ fails a
+  unfolding unless
+  fails-by e = rw e
+
+  pub passes-to : t ≡ none → unless fails t rest ≡ rest
+  unfolding unless
+  passes-to e = rw e
+
+module _ (S : Script) (span : Span) (records work : ℕ) where
+  pub judged-shut : {a : Answer} → openTest S span records work ≡ some a → judgeChunk S span records work ≡ fails a
+  unfolding judgeChunk
+  judged-shut e = fails-by (walked S span) e
+
+  pub judged-open : openTest S span records work ≡ none → judgeChunk S span records work ≡ walked S span
+  unfolding judgeChunk
+  judged-open e = passes-to (walked S span) e
+
+-- ---- 14
+
+-- a height is above the declared one, and 14 refuses it; or it is not, and passes
+pub data Height (height declared : ℕ) : Type 0 where
+  above : declared < height → heightTest height declared ≡ some (StackExceedsDeclared height declared)
+      → Height height declared
+  within : height ≤ declared → heightTest height declared ≡ none → Height height declared
+
+pub within-or-above : (height declared : ℕ) → Height height declared
+unfolding heightTest
+within-or-above height declared = go (ltb declared height) refl
+  where
+    go : (b : Bool) → ltb declared height ≡ b → Height height declared
+    go true q = above (ltb-true declared height q) (rw q)
+    go false q = within (ltb-false declared height q) (rw q)
+
+-- ---- a chunk that passed every check before its walk
+
 module _ (S : Script) (span : Span) {records work : ℕ} (B : BeforeWalk S span records work) where
   laws : Laws (machine S span) (degree S) (chunkStarts S span)
   laws = keeps-laws S span B
@@ -52,6 +92,25 @@ module _ (S : Script) (span : Span) {records work : ℕ} (B : BeforeWalk S span 
   unfolding E
   walk-ends = ends (machine S span) laws (1 + E S span) (omega arith)
 
+  -- So it accepts or refuses, and the chunk is judged by that: the last line of `measured`, of a walk that is out of
+  -- units, is never used.
+  pub data Told : Type 0 where
+    accepts : (b : Book Log) → walk (machine S span) log (1 + E S span) [] ≡ accepted b
+        → walked S span
+        ≡ unless fails (heightTest (b .height) (span .declared)) (passes (b .height) (b .reached) (b .taken))
+        → Told
+    refuses : (a : Answer) {spent : ℕ} → walk (machine S span) log (1 + E S span) [] ≡ refused a spent
+        → walked S span ≡ fails a → Told
+
+  pub walk-told : Told
+  unfolding walked measured
+  walk-told = go (walk (machine S span) log (1 + E S span) []) refl
+    where
+      go : (o : Run Answer Log) → walk (machine S span) log (1 + E S span) [] ≡ o → Told
+      go (accepted b) q = accepts b q (rw q)
+      go (refused a u) q = refuses a q (rw q)
+      go (unfinished w b) q = absurd (walk-ends q)
+
   pub walk-bounded : (n : ℕ) {w : List Item} {b : Book Log} → walk (machine S span) log n [] ≡ unfinished w b
       → Bounded (E S span) (length (chunkStarts S span)) w b
   unfolding E
@@ -61,10 +120,10 @@ module _ (S : Script) (span : Span) {records work : ℕ} (B : BeforeWalk S span 
   pub few-instructions : length (chunkStarts S span) ≤ length (S .code)
   few-instructions = before-few widthOf (S .code) (span .end) (span .entry)
 
-  -- so after the checks a chunk is judged by its walk
-  pub judged-walks : judgeChunk S span records work ≡ walked S span
-  unfolding judgeChunk
-  judged-walks =
+  -- its own tests before the walk pass, so it is judged by its walk
+  open-passes : openTest S span records work ≡ none
+  unfolding openTest spanTest roomTest unless
+  open-passes =
       rw (
         le-ltb (span .end) (span .entry) (B .in-order),
         le-ltb (length (S .code)) (span .end) (B .in-code),
@@ -72,6 +131,9 @@ module _ (S : Script) (span : Span) {records work : ℕ} (B : BeforeWalk S span 
         le-ltb records (4 * (1 + T S span)) (B .records-room),
         le-ltb work (4 * (1 + E S span)) (B .work-room),
       )
+
+  pub judged-walks : judgeChunk S span records work ≡ walked S span
+  judged-walks = judged-open S span records work open-passes
 
   -- what a judged walk tells of the run: it passes exactly if the run accepts within the declared height, with its numbers
   record Ran (height reached taken : ℕ) : Type 0 where
@@ -81,23 +143,22 @@ module _ (S : Script) (span : Span) {records work : ℕ} (B : BeforeWalk S span 
     numbers : (book .height ≡ height) × (book .reached ≡ reached) × (book .taken ≡ taken)
 
   ran-so : {h r t : ℕ} → walked S span ≡ passes h r t → Ran h r t
-  unfolding walked measured units
-  ran-so {h} {r} {t} e = go (walk (machine S span) log (1 + E S span) []) refl e
+  unfolding units
+  ran-so {h} {r} {t} e = go walk-told
     where
-      go : (o : Run Answer Log) → walk (machine S span) log (1 + E S span) [] ≡ o → measured (span .declared) o ≡ passes h r t → Ran h r t
-      go (accepted b) q e = by-height (ltb (span .declared) (b .height)) refl e
+      go : Told → Ran h r t
+      go (accepts b q j) = by-height (within-or-above (b .height) (span .declared))
         where
-          by-height : (x : Bool) → ltb (span .declared) (b .height) ≡ x
-              → _≡_ {A = Judged} (cond x (fails (StackExceedsDeclared (b .height) (span .declared))) (passes (b .height) (b .reached) (b .taken))) (passes h r t)
-              → Ran h r t
-          by-height true p e = absurd (zero≢one (cc))
-          by-height false p e = record { book = b; ran = q; low = ltb-false (span .declared) (b .height) p; numbers = (cc, cc, cc) }
-      go (refused x u) q e = absurd (zero≢one (cc))
-      go (unfinished w b) q e = absurd (zero≢one (cc))
+          by-height : Height (b .height) (span .declared) → Ran h r t
+          by-height (above l p) = let both = sym (j ∙ fails-by _ p) ∙ e in absurd (zero≢one (cc))
+          by-height (within l p) =
+              let both = sym (j ∙ passes-to _ p) ∙ e in
+              record { book = b; ran = q; low = l; numbers = (cc, cc, cc) }
+      go (refuses a q j) = absurd (zero≢one (cc))
 
   passes-so : (b : Book Log) → walk (machine S span) log units [] ≡ accepted b → b .height ≤ span .declared
       → walked S span ≡ passes (b .height) (b .reached) (b .taken)
-  unfolding walked measured units
+  unfolding walked measured heightTest unless units
   passes-so b ran low = rw (ran, le-ltb (span .declared) (b .height) low)
 
   exact : Accepts (machine S span) units (span .declared) ↔ ((A : ℕ → Option Depths) × machine.Writing (machine S span) (span .declared) A)
@@ -166,20 +227,27 @@ module _ (S : Script) (span : Span) {records work : ℕ} (B : BeforeWalk S span 
   -- Theorem 7. A refusal is real: an instruction on a path from the entry fails that very test with these values; or, for 14,
   -- the largest depth on the paths is above the declared height.
   pub refused-really : {a : Answer} → walked S span ≡ fails a → Real S span a ⊎ Exceeds S span a
-  unfolding walked measured units E
-  refused-really {a} e = go (walk (machine S span) log (1 + E S span) []) refl e
+  unfolding units
+  refused-really {a} e = go walk-told
     where
-      go : (o : Run Answer Log) → walk (machine S span) log (1 + E S span) [] ≡ o → measured (span .declared) o ≡ fails a → Real S span a ⊎ Exceeds S span a
-      go (accepted b) q e = by-height (ltb (span .declared) (b .height)) refl e
+      go : Told → Real S span a ⊎ Exceeds S span a
+      go (accepts b q j) = by-height (within-or-above (b .height) (span .declared))
         where
-          by-height : (x : Bool) → ltb (span .declared) (b .height) ≡ x
-              → _≡_ {A = Judged} (cond x (fails (StackExceedsDeclared (b .height) (span .declared))) (passes (b .height) (b .reached) (b .taken))) (fails a)
-              → Real S span a ⊎ Exceeds S span a
-          by-height true p e =
-              inr (record { height = b .height; reached = b .reached; taken = b .taken; measures = ran-measures b q; above = ltb-true (span .declared) (b .height) p; answer = cc })
-          by-height false p e = absurd (zero≢one (cc))
-      go (refused x u) q e = let same : x ≡ a = cc in inl (rw same at (real-of S span (real (machine S span) laws (1 + E S span) q)))
-      go (unfinished w b) q e = absurd (ends (machine S span) laws (1 + E S span) (omega arith) q)
+          by-height : Height (b .height) (span .declared) → Real S span a ⊎ Exceeds S span a
+          by-height (above l p) =
+              let both = sym (j ∙ fails-by _ p) ∙ e in
+              inr (record {
+                height = b .height;
+                reached = b .reached;
+                taken = b .taken;
+                measures = ran-measures b q;
+                above = l;
+                answer = cc;
+              })
+          by-height (within l p) = let both = sym (j ∙ passes-to _ p) ∙ e in absurd (zero≢one (cc))
+      go (refuses x q j) =
+          let same : x ≡ a = cc in
+          inl (rw same at (real-of S span (real (machine S span) laws (1 + E S span) q)))
 
 -- Theorem 8. The height is the least that can be declared: with the same entry and end, the chunk is accepted under just those
 -- declared heights that are no less.

@@ -12,6 +12,7 @@ use lib.Dec.{ltb, leb}
 use Rattle.code.specs.Layout.{among}
 use Rattle.code.specs.Tags.{RETURN, THROW, JUMP, SWITCH}
 use Rattle.code.proofs.Among.{among-member, member-among}
+use Rattle.answer.specs.Answer.{unless}
 use Rattle.answer.specs.declared.Answer.{Answer}
 use Rattle.answer.specs.declared.Answer.the-variants.{MissingCaps, Underflow, FallsOffTheEnd, IteratorUnderflow, HandlerUnderflow}
 use Rattle.answer.specs.declared.Depths.{Depths}
@@ -22,7 +23,7 @@ use Rattle.machine.specs.Lists.{_∈_, here, there}
 use Rattle.machine.specs.Machine.{Ruling, denies, gives, fallTo}
 use Rattle.rules.specs.Needs.{iteratorsNeeded, handlersNeeded, Able}
 use Rattle.rules.specs.Rights.{required, lacking}
-use Rattle.demand.specs.Rule.{rule}
+use Rattle.demand.specs.Rule.{needsTest, rule}
 use Rattle.rules.specs.Script.{Script, tagOf}
 use Rattle.demand.specs.Span.{Span}
 use Rattle.machine.proofs.Lists.{∈-cases, ∉-nil}
@@ -56,17 +57,16 @@ module _ (S : Script) (span : Span) (p : ℕ) (d : Depths) where
         → o ≡ gives (after S p d .operands) (fall (falls (tagOf S p))) jumps → Says o
 
   pub says : Says (rule S span p d)
-  unfolding rule
+  unfolding rule needsTest unless
   says = by-rights (ltb 0 lacks) refl
     where
       ruling : Bool → Bool → Bool → Bool → Bool → Ruling Answer
       ruling a b e f g =
-          cond a (denies (MissingCaps p lacks))
-          (cond b (denies (Underflow p need (d .operands)))
-          (cond e (denies (IteratorUnderflow p))
-          (cond f (denies (HandlerUnderflow p))
-          (cond g (denies FallsOffTheEnd)
-          (gives (after S p d .operands) (fall (falls (tagOf S p))) jumps)))))
+          unless denies
+          (cond a (some (MissingCaps p lacks))
+          (cond b (some (Underflow p need (d .operands)))
+          (cond e (some (IteratorUnderflow p)) (cond f (some (HandlerUnderflow p)) none))))
+          (cond g (denies FallsOffTheEnd) (gives (after S p d .operands) (fall (falls (tagOf S p))) jumps))
 
       by-end : Able S p d → (s : Bool) → plain (tagOf S p) ≡ s → (t : Bool) → leb (span .end) (next S p) ≡ t
           → Says (ruling false false false false (s && t))

@@ -1,7 +1,8 @@
--- One chunk judged. Document 01, "Order of the tests": "A chunk: 7; 8 if the entry is neither a start nor the code's length;
--- room for records, work; walk; 14."
+-- One chunk judged: its tests before the walk, the walk, and 14. Document 01, "Order of the tests": "A chunk: 7; 8 if
+-- the entry is neither a start nor the code's length; room for records, work; walk; 14."
 use mathlib.Core.Bool.{true, not, _||_, cond}
-use mathlib.Core.List.{[]}
+use mathlib.Core.List.{List, []}
+use mathlib.Core.Option.{Option, none, some}
 use mathlib.Core.Path.{_≡_}
 use Prim.Native.Nat.{ℕ, _+_, _*_, _≤_, _<_}
 use lib.Dec.{ltb, eqb}
@@ -12,6 +13,7 @@ use Rattle.code.specs.Width.{widthOf}
 use Rattle.listing.specs.Listing.{Start, starts, stopBy}
 use Rattle.pools.specs.Good.{ChainsWithin, SwitchesWithin}
 use Rattle.pools.specs.Pools.{chainsIn, switchesIn}
+use Rattle.answer.specs.Answer.{unless}
 use Rattle.answer.specs.declared.Answer.{Answer}
 use Rattle.answer.specs.declared.Answer.the-variants.{NoRoom, ChunkOutOfRange, Misaligned, StackExceedsDeclared, FallsOffTheEnd}
 use Rattle.demand.specs.Span.{T, E}
@@ -20,15 +22,43 @@ use Rattle.rules.specs.Script.{Script, tagOf}
 use Rattle.demand.specs.Span.{Span}
 use Rattle.machine.specs.Walk.{Run, accepted, refused, unfinished, Log, log, walk}
 
+-- ---- the tests before the walk
+
+-- 7, then 8
+unfoldable pub spanTest : (code : List ℕ) (entry end : ℕ) → Option Answer
+spanTest code entry end =
+    cond (ltb end entry || ltb (length code) end) (some (ChunkOutOfRange entry end))
+    (cond (not (among entry (starts code) || eqb entry (length code))) (some (Misaligned entry)) none)
+
+-- 3, of so many targets and edges: room for records, then for work
+unfoldable pub roomTest : (targets edges records work : ℕ) → Option Answer
+roomTest targets edges records work =
+    cond (ltb records (4 * (1 + targets))) (some (NoRoom (4 * (1 + targets)) 3))
+    (cond (ltb work (4 * (1 + edges))) (some (NoRoom (4 * (1 + edges)) 4)) none)
+
+-- all of them, of a chunk, where so many words of records and of work are lent
+unfoldable pub openTest : Script → Span → (records work : ℕ) → Option Answer
+openTest S span records work =
+    unless some (spanTest (S .code) (span .entry) (span .end)) (roomTest (T S span) (E S span) records work)
+
+-- ---- the walk, and 14
+
 -- a chunk passes with its height and its two counts, or fails with an answer
 pub data Judged : Type 0 where
   passes : (height reached taken : ℕ) → Judged
   fails : Answer → Judged
 
--- 14, after a walk that refuses nothing
+-- 14, of a walk that refuses nothing
+unfoldable pub heightTest : (height declared : ℕ) → Option Answer
+heightTest height declared = cond (ltb declared height) (some (StackExceedsDeclared height declared)) none
+
+-- What a walk comes to. The last line, of a walk that is out of units, is there since a definition has to answer for
+-- every run. It is never used: a walk has as many units as there can be items, so that no item of a chunk that passed
+-- the checks before its walk is left when they are spent. `walk-ends` in proofs/Demand says so, and `walk-told`
+-- there, that such a chunk is judged by one of the two lines before it.
 unfoldable pub measured : (declared : ℕ) → Run Answer Log → Judged
 measured declared (accepted b) =
-    cond (ltb declared (b .height)) (fails (StackExceedsDeclared (b .height) declared)) (passes (b .height) (b .reached) (b .taken))
+    unless fails (heightTest (b .height) declared) (passes (b .height) (b .reached) (b .taken))
 measured declared (refused r spent) = fails r
 measured declared (unfinished w b) = fails FallsOffTheEnd
 
@@ -38,14 +68,9 @@ module _ (S : Script) (span : Span) where
   walked = measured (span .declared) (walk (machine S span) log (1 + E S span) [])
 
   module _ (records work : ℕ) where
-    -- so many words of records and of work are lent
+    -- the tests, then the walk, where so many words of records and of work are lent
     unfoldable pub judgeChunk : Judged
-    judgeChunk =
-        cond (ltb (span .end) (span .entry) || ltb (length (S .code)) (span .end)) (fails (ChunkOutOfRange (span .entry) (span .end)))
-        (cond (not (among (span .entry) (starts (S .code)) || eqb (span .entry) (length (S .code)))) (fails (Misaligned (span .entry)))
-        (cond (ltb records (4 * (1 + T S span))) (fails (NoRoom (4 * (1 + T S span)) 3))
-        (cond (ltb work (4 * (1 + E S span))) (fails (NoRoom (4 * (1 + E S span)) 4))
-        walked)))
+    judgeChunk = unless fails (openTest S span records work) walked
 
 -- a chunk is accepted by its walk, with its height and its two counts
 pub record Accepted (S : Script) (span : Span) : Type 0 where

@@ -9,6 +9,7 @@ use Prim.Native.Nat.{ℕ}
 use lib.Dec.{ltb, leb}
 use Rattle.code.specs.Layout.{among}
 use Rattle.listing.specs.Listing.{starts}
+use Rattle.answer.specs.Answer.{unless}
 use Rattle.answer.specs.declared.Answer.{Answer}
 use Rattle.answer.specs.declared.Answer.the-variants.{MissingCaps, JumpOutOfRange, JumpIntoAnInstruction, DepthConflict, Underflow, FallsOffTheEnd, IteratorUnderflow, HandlerUnderflow}
 use Rattle.answer.specs.declared.Depths.{Depths}
@@ -26,17 +27,23 @@ unfoldable pub allTargets : Script → List ℕ → List ℕ
 allTargets S [] = []
 allTargets S (p ∷ ps) = targets S p ++ allTargets S ps
 
+-- the tests of what an instruction needs: kind 4, where so much lacks; then 12, 15 and 16, of a tag that needs so
+-- many operands
+unfoldable pub needsTest : (lacks tag needs at : ℕ) → Depths → Option Answer
+needsTest lacks tag needs at d =
+    cond (ltb 0 lacks) (some (MissingCaps at lacks))
+    (cond (ltb (d .operands) needs) (some (Underflow at needs (d .operands)))
+    (cond (ltb (d .iterators) (iteratorsNeeded tag)) (some (IteratorUnderflow at))
+    (cond (ltb (d .handlers) (handlersNeeded tag)) (some (HandlerUnderflow at)) none)))
+
 module _ (S : Script) (span : Span) where
   -- the rule: the first test that fails denies; else control goes to each target, and falls through
   unfoldable pub rule : ℕ → Depths → Ruling Answer
   rule p d =
-      cond (ltb 0 lacks) (denies (MissingCaps p lacks))
-      (cond (ltb (d .operands) need) (denies (Underflow p need (d .operands)))
-      (cond (ltb (d .iterators) (iteratorsNeeded (tagOf S p))) (denies (IteratorUnderflow p))
-      (cond (ltb (d .handlers) (handlersNeeded (tagOf S p))) (denies (HandlerUnderflow p))
+      unless denies (needsTest lacks (tagOf S p) need p d)
       (cond (plain (tagOf S p) && leb (span .end) (next S p)) (denies FallsOffTheEnd)
       (gives (after S p d .operands) (cond (falls (tagOf S p)) (some (after S p d)) none)
-      (map (λ (t : ℕ). record { place = t; depths = jumped S p d }) (targets S p)))))))
+      (map (λ (t : ℕ). record { place = t; depths = jumped S p d }) (targets S p))))
     where
       lacks : ℕ
       lacks = lacking (required (S .code) (S .pools .names) (S .pools .chains) (S .pools .steps) p) (S .rights)

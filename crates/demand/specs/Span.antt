@@ -25,7 +25,8 @@ pub record InChunk (S : Script) (span : Span) (p : ℕ) : Type 0 where
   pub from-entry : span .entry ≤ p
   pub before-end : p < span .end
 
--- a chunk's own tests, 7 and 8, passed
+-- a chunk's own tests, 7 and 8, passed: this holds exactly where `spanTest` refuses nothing (`span-exactly` in
+-- proofs/Tests)
 pub record InCode (code : List ℕ) (entry end : ℕ) : Type 0 where
   pub in-order : entry ≤ end
   pub in-code : end ≤ length code

@@ -6,7 +6,7 @@ use mathlib.Core.Path.{_≡_, refl, sym, ap, _∙_, subst}
 use Prim.Native.Nat.{ℕ, _+_, _-_, _*_, _≤_, _<_}
 use native.Mathlib.Decide.{decLt}
 use native.Mathlib.Omega.{arith}
-use borrow.Author.Tests.{le-ltb}
+use borrow.Author.Tests.{lt-ltb, le-ltb}
 use lib.Dec.{ltb}
 use lib.ListN.{length, getD, set, take, drop, replicate, length-replicate, length-append, length-drop, List·getD-append}
 use lib.Seq.{drop-length, ext-getD, getD-append-add, getD-drop}
@@ -24,12 +24,12 @@ use Rattle.opening.proofs.Targets.{keys-rise, few-keys}
 use Rattle.order.specs.Order.{Rising}
 use Rattle.pools.specs.Sizes.{maxCode, maxTargets}
 use Rattle.answer.specs.declared.Answer.{Answer}
-use Rattle.answer.specs.declared.Answer.the-variants.{StackExceedsDeclared}
 use Rattle.answer.specs.declared.Outcome.{Outcome}
 use Rattle.answer.specs.declared.Outcome.the-variants.{Passed, Refused as Failed}
-use Rattle.answer.specs.Answer.{told}
+use Rattle.answer.specs.Answer.{told, unless}
+use Rattle.demand.proofs.Demand.{Height, above, within, within-or-above}
 use Rattle.answer.proofs.Apart.{zero≢one}
-use Rattle.demand.specs.Chunk.{BeforeWalk, judgeChunk, passes, fails, redeclared}
+use Rattle.demand.specs.Chunk.{BeforeWalk, judgeChunk, passes, fails, heightTest, redeclared}
 use Rattle.demand.specs.Span.{T, E, chunkStarts}
 use Rattle.rules.specs.Edges.{falls, degree}
 use Rattle.machine.specs.Lists.{_∈_, here, there, sumOf}
@@ -42,7 +42,7 @@ use Rattle.walk.specs.declared.Counts.{Counts}
 use Rattle.walk.specs.declared.Hand.{Hand}
 use Rattle.walk.specs.declared.Turn.{Turn}
 use Rattle.walk.specs.declared.Turn.the-variants.{Next, Done, Refused as Stopped}
-use Rattle.walk.specs.Units.{spanOf, firstHand, zeroed, Abandoned, heightTest, Closed, AtItem, turnOf, GoesOn, Ends, Stops, Took}
+use Rattle.walk.specs.Units.{spanOf, firstHand, zeroed, Abandoned, Closed, AtItem, turnOf, GoesOn, Ends, Stops, Took}
 use Rattle.walk.proofs.Chunks.{begins, goes, last-fit, Few, few, ended, refuses-so}
 use Rattle.walk.proofs.Moment.{fit, small}
 use Rattle.walk.proofs.Store.{laid-fit, behind-zeros}
@@ -255,7 +255,7 @@ module _ {S : Script} {marks : List ℕ} {words rooms : ℕ} where
     -- none is left
     module _ {last : Counts} {records′ work′ : List ℕ} (g : Ends S room (turnOf S room h records work) last records′ work′) where
       pub ended-judged : (declared : ℕ) → judgeChunk S (redeclared (spanOf room) declared) words rooms
-          ≡ cond (ltb declared (last .height)) (fails (StackExceedsDeclared (last .height) declared)) (passes (last .height) (last .reached) (last .taken))
+          ≡ unless fails (heightTest (last .height) declared) (passes (last .height) (last .reached) (last .taken))
       ended-judged = ended S room words rooms lent h records work (W .records-long) (W .at .going) last records′ work′ g
 
       pub ended-few : Few S room words rooms lent h records work (W .records-long) (W .at .going) last records′ work′ g
@@ -273,33 +273,34 @@ module _ {S : Script} {marks : List ℕ} {words rooms : ℕ} where
 
 module _ {used height declared chunk : ℕ} {heights records : List ℕ} {r : Outcome} {heights′ records′ : List ℕ}
     (k : Closed used height declared chunk heights records r heights′ records′) where
-  low-enough : (b : Bool) → ltb declared height ≡ b → told r ≡ cond b (some (StackExceedsDeclared height declared)) none
-  unfolding heightTest
-  low-enough b e = rw (← e) (k .answer)
-
   -- it passes, where the height is not above the declared one
   pub record ClosedWell : Type 0 where
-    pub low : ltb declared height ≡ false
+    pub low : heightTest height declared ≡ none
     pub stored : heights′ ≡ set heights chunk height
 
   pub closed-well : r ≡ Passed → ClosedWell
   unfolding told
-  closed-well e = go (ltb declared height) refl
+  closed-well e = go (within-or-above height declared)
     where
-      go : (b : Bool) → ltb declared height ≡ b → ClosedWell
-      go true q = let both = sym (ap told e) ∙ low-enough true q in absurd (zero≢one (cc))
-      go false q = record { low = q; stored = k .stored ∙ rw q refl }
+      passed : heightTest height declared ≡ none
+      passed = sym (k .answer) ∙ ap told e
+
+      go : Height height declared → ClosedWell
+      go (above l q) = absurd (zero≢one (cc (passed, q)))
+      go (within l q) = record { low = q; stored = k .stored ∙ rw (le-ltb declared height l) refl }
 
   -- it is refused, where it is above
   pub record ClosedAbove (a : Answer) : Type 0 where
-    pub high : ltb declared height ≡ true
-    pub which : StackExceedsDeclared height declared ≡ a
+    pub high : heightTest height declared ≡ some a
     pub kept : heights′ ≡ heights
 
   pub closed-above : {a : Answer} → r ≡ Failed a → ClosedAbove a
   unfolding told
-  closed-above {a} e = go (ltb declared height) refl
+  closed-above {a} e = go (within-or-above height declared)
     where
-      go : (b : Bool) → ltb declared height ≡ b → ClosedAbove a
-      go true q = let both = sym (ap told e) ∙ low-enough true q in record { high = q; which = cc; kept = k .stored ∙ rw q refl }
-      go false q = let both = sym (ap told e) ∙ low-enough false q in absurd (zero≢one (cc))
+      refused : heightTest height declared ≡ some a
+      refused = sym (k .answer) ∙ ap told e
+
+      go : Height height declared → ClosedAbove a
+      go (above l q) = record { high = refused; kept = k .stored ∙ rw (lt-ltb declared height l) refl }
+      go (within l q) = absurd (zero≢one (cc (refused, q)))

@@ -11,14 +11,14 @@ use Rattle.demand.specs.Span.{Span}
 use Rattle.judging.specs.declared.Judgement.{Judgement}
 use Rattle.judging.specs.declared.Judgement.the-variants.{Passed, Refused}
 
--- an answer, and what heights hold with it
-pub record Judged : Type 0 where
+-- chunks judged one after the other: the answer, and what heights hold with it
+pub record JudgedAll : Type 0 where
   pub answer : Judgement
   pub heights : List ℕ
 
 -- where so many words of records and of work are lent: from the chunk of a number on, with what the chunks before it come to
 module _ (S : Script) (records work : ℕ) where
-  unfoldable pub judgeAll : List Span → (number reached taken : ℕ) → (heights : List ℕ) → Judged
+  unfoldable pub judgeAll : List Span → (number reached taken : ℕ) → (heights : List ℕ) → JudgedAll
   judgeAll [] number reached taken heights = record { answer = Passed reached taken; heights = heights }
   judgeAll (span ∷ spans) number reached taken heights =
       elim (judgeChunk S span records work) [
@@ -34,5 +34,5 @@ module _ (S : Script) (records work : ℕ) where
     pub work-zero : work′ ≡ replicate work 0
 
 -- one judgement, and after it, where all of its chunks pass, another
-unfoldable pub andThen : Judged → ((reached taken : ℕ) → (heights : List ℕ) → Judged) → Judged
+unfoldable pub andThen : JudgedAll → ((reached taken : ℕ) → (heights : List ℕ) → JudgedAll) → JudgedAll
 andThen judged more = elim (judged .answer) [ Passed reached taken ↦ more reached taken (judged .heights) | Refused chunk a ↦ judged ]

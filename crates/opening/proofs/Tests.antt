@@ -1,6 +1,7 @@
--- A chunk's own tests: what each of them comes to, what it tells when it passes, and the verdict when it refuses.
+-- A chunk's own tests: what each of them comes to, and that it passes exactly where the facts hold that it is for.
 use mathlib.Core.Bool.{Bool, true, false, not, _||_, cond}
 use mathlib.Core.List.{List}
+use mathlib.Core.Logic.{_↔_}
 use mathlib.Core.Option.{Option, none, some}
 use mathlib.Core.Path.{_≡_, refl, sym, ap, _∙_}
 use Prim.Native.Nat.{ℕ, _+_, _*_, _≤_, _<_}
@@ -13,24 +14,21 @@ use Rattle.listing.proofs.Marked.{told-by-marks}
 use Rattle.marks.specs.Marks.{bitAt, isOne}
 use Rattle.answer.specs.declared.Answer.{Answer}
 use Rattle.answer.specs.declared.Answer.the-variants.{NoRoom, ChunkOutOfRange, Misaligned}
-use Rattle.demand.specs.Chunk.{Judged, fails, walked, judgeChunk}
-use Rattle.demand.specs.Span.{T, E}
-use Rattle.rules.specs.Script.{Script}
-use Rattle.demand.specs.Span.{Span}
+use Rattle.demand.specs.Chunk.{spanTest, roomTest}
 use Rattle.answer.proofs.Apart.{zero≢one}
 use Rattle.answer.specs.declared.Outcome.{Outcome}
 use Rattle.answer.specs.declared.Outcome.the-variants.{Passed, Refused}
 use Rattle.demand.specs.Span.{InCode}
 use Rattle.opening.specs.Ready.{Marked}
 use Rattle.answer.specs.Answer.{told}
-use Rattle.opening.specs.Tests.{Test, spanTest, roomTest}
 
 -- what a test tells, by its outcome
-pub tells-refusal : {r : Outcome} {t : Test} {answer : Answer} → told r ≡ t → r ≡ Refused answer → t ≡ some answer
+pub tells-refusal : {r : Outcome} {t : Option Answer} {answer : Answer} → told r ≡ t → r ≡ Refused answer
+    → t ≡ some answer
 unfolding told
 tells-refusal e q = sym e ∙ ap told q
 
-pub tells-none : {r : Outcome} {t : Test} → told r ≡ t → r ≡ Passed → t ≡ none
+pub tells-none : {r : Outcome} {t : Option Answer} → told r ≡ t → r ≡ Passed → t ≡ none
 unfolding told
 tells-none e q = sym e ∙ ap told q
 
@@ -72,6 +70,13 @@ module _ (code : List ℕ) (entry end : ℕ) where
       go false qa false qb false qd e = absurd (zero≢one (cc))
       go false qa false qb true qd e = record { in-order = ltb-false end entry qa; in-code = ltb-false (length code) end qb; aligned = qd }
 
+  pub in-code-passes : InCode code entry end → spanTest code entry end ≡ none
+  unfolding spanTest
+  in-code-passes i = rw (le-ltb end entry (i .in-order), le-ltb (length code) end (i .in-code), i .aligned) refl
+
+  pub span-exactly : spanTest code entry end ≡ none ↔ InCode code entry end
+  span-exactly = (span-passed, in-code-passes)
+
 -- ---- room
 
 module _ (targets edges records work : ℕ) where
@@ -101,43 +106,5 @@ module _ (targets edges records work : ℕ) where
       go false qa true qb e = absurd (zero≢one (cc))
       go false qa false qb e = record { records-fit = ltb-false records (4 * (1 + targets)) qa; work-fits = ltb-false work (4 * (1 + edges)) qb }
 
--- ---- the verdict
-
--- two tests in turn, and what comes after them
-module _ (x y : Answer) (rest : Judged) where
-  refuse : {answer : Answer} (a b : Bool) → cond a (some x) (cond b (some y) none) ≡ some answer → cond a (fails x) (cond b (fails y) rest) ≡ fails answer
-  refuse true b e = cc
-  refuse false true e = cc
-  refuse false false e = absurd (zero≢one (cc))
-
-  pass : (a b : Bool) → _≡_ {A = Option Answer} (cond a (some x) (cond b (some y) none)) none → cond a (fails x) (cond b (fails y) rest) ≡ rest
-  pass true b e = absurd (zero≢one (cc))
-  pass false true e = absurd (zero≢one (cc))
-  pass false false e = refl
-
-module _ (S : Script) (span : Span) (records work : ℕ) where
-  abbrev outside : Bool
-  outside = ltb (span .end) (span .entry) || ltb (length (S .code)) (span .end)
-
-  abbrev misaligned : Bool
-  misaligned = not (among (span .entry) (starts (S .code)) || eqb (span .entry) (length (S .code)))
-
-  abbrev few-records : Bool
-  few-records = ltb records (4 * (1 + T S span))
-
-  abbrev little-work : Bool
-  little-work = ltb work (4 * (1 + E S span))
-
-  abbrev room-then-walk : Judged
-  room-then-walk = cond few-records (fails (NoRoom (4 * (1 + T S span)) 3)) (cond little-work (fails (NoRoom (4 * (1 + E S span)) 4)) (walked S span))
-
-  pub span-judged : {answer : Answer} → spanTest (S .code) (span .entry) (span .end) ≡ some answer → judgeChunk S span records work ≡ fails answer
-  unfolding spanTest judgeChunk
-  span-judged e = refuse (ChunkOutOfRange (span .entry) (span .end)) (Misaligned (span .entry)) room-then-walk outside misaligned e
-
-  pub room-judged : {answer : Answer} → spanTest (S .code) (span .entry) (span .end) ≡ none → roomTest (T S span) (E S span) records work ≡ some answer
-      → judgeChunk S span records work ≡ fails answer
-  unfolding spanTest roomTest judgeChunk
-  room-judged p e =
-      pass (ChunkOutOfRange (span .entry) (span .end)) (Misaligned (span .entry)) room-then-walk outside misaligned p
-      ∙ refuse (NoRoom (4 * (1 + T S span)) 3) (NoRoom (4 * (1 + E S span)) 4) (walked S span) few-records little-work e
+  pub room-exactly : roomTest targets edges records work ≡ none ↔ Fits
+  room-exactly = (room-passed, λ fits. sym (both-fit (fits .records-fit) (fits .work-fits)))

@@ -8,6 +8,8 @@ use lib.ListN.{length, take, drop, replicate, replicate-append-replicate}
 use lib.Seq.{length-take-le, take-at, drop-at}
 use Rattle.order.specs.Order.{inOrder, Ordered}
 use Rattle.order.proofs.Laws.{no-longer}
+use Rattle.answer.specs.Answer.{unless}
+use Rattle.demand.specs.Chunk.{spanTest, roomTest, openTest}
 use Rattle.answer.specs.declared.Answer.{Answer}
 use Rattle.demand.specs.Span.{T, E, chunkStarts}
 use Rattle.rules.specs.Edges.{degree}
@@ -18,10 +20,9 @@ use Rattle.opening.specs.Listing.{fronted, opening, keepAll, AllListed}
 use Rattle.opening.specs.Opens.{KeysLaid, Refuses, Readies}
 use Rattle.demand.specs.Span.{InCode}
 use Rattle.opening.specs.Records.{named, keys, laid}
-use Rattle.opening.specs.Tests.{spanTest, roomTest, openTest}
 use Rattle.opening.proofs.Fronts.{drop-zeros, length-fronted, cleared}
 use Rattle.opening.proofs.Targets.{length-named, targets-below-edges, all-kept-named}
-use Rattle.opening.proofs.Tests.{Fits, room-passed, span-judged, room-judged}
+use Rattle.opening.proofs.Tests.{Fits, room-passed}
 
 -- ---- the order
 
@@ -49,8 +50,8 @@ keys-laid count records work r a b tail zero o = record {
 module _ (S : Script) (span : Span) where
   pub refused-by-span : {answer : Answer} (records work : List ℕ) → spanTest (S .code) (span .entry) (span .end) ≡ some answer
       → records ≡ replicate (length records) 0 → work ≡ replicate (length work) 0 → Refuses S span (length records) (length work) answer records work
-  unfolding openTest
-  refused-by-span records work e r w = record { tested = rw (e, openTest) refl; judged = span-judged S span (length records) (length work) e; records-cleared = r; work-cleared = w }
+  unfolding openTest unless
+  refused-by-span records work e r w = record { tested = rw e; records-cleared = r; work-cleared = w }
 
   module _ {lent : ℕ} {listed : Listed} {records : List ℕ}
       (A : AllListed (S .code) (S .pools .switches) (S .pools .cases) (S .pools .ranges) (span .entry) (span .end) lent listed records) where
@@ -79,10 +80,9 @@ module _ (S : Script) (span : Span) where
         → roomTest (listed .targets) (listed .edges) (length records) (length work) ≡ some answer
         → records′ ≡ replicate (listed .stored) 0 ++ drop (listed .stored) records → work ≡ replicate (length work) 0
         → Refuses S span lent (length work) answer records′ work
-    unfolding openTest
+    unfolding openTest unless
     refused-for-room work p e c w = record {
-      tested = rw (p, openTest) ((rw (counts-targets, counts-edges, long) at e));
-      judged = room-judged S span lent (length work) p ((rw (counts-targets, counts-edges, long) at e));
+      tested = rw p (rw (counts-targets, counts-edges, long) at e);
       records-cleared = c ∙ rw (A .stored, A .kept) (cleared lent front front-fits);
       work-cleared = w;
     }

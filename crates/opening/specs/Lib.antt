@@ -2,5 +2,4 @@
 pub mod Ready
 pub mod Records
 pub mod Listing
-pub mod Tests
 pub mod Opens

@@ -7,7 +7,7 @@ use Prim.Native.Nat.{ℕ, _+_, _*_, _≤_}
 use lib.ListN.{length, take, replicate}
 use Rattle.order.specs.Order.{inOrder}
 use Rattle.answer.specs.declared.Answer.{Answer}
-use Rattle.demand.specs.Chunk.{fails, judgeChunk}
+use Rattle.demand.specs.Chunk.{openTest}
 use Rattle.demand.specs.Span.{T, E}
 use Rattle.rules.specs.Script.{Script}
 use Rattle.demand.specs.Span.{Span}
@@ -17,7 +17,6 @@ use Rattle.opening.specs.declared.Room.{Room}
 use Rattle.opening.specs.Listing.{fronted}
 use Rattle.demand.specs.Span.{InCode}
 use Rattle.opening.specs.Records.{keys, laid}
-use Rattle.opening.specs.Tests.{openTest}
 
 -- the first words put in order, r of them left, and nothing else in either buffer
 pub record KeysLaid (count : ℕ) (records work : List ℕ) (r : ℕ) (records′ work′ : List ℕ) : Type 0 where
@@ -29,7 +28,6 @@ pub record KeysLaid (count : ℕ) (records work : List ℕ) (r : ℕ) (records�
 module _ (S : Script) (span : Span) (lent-records lent-work : ℕ) where
   pub record Refuses (answer : Answer) (records′ work′ : List ℕ) : Type 0 where
     pub tested : openTest S span lent-records lent-work ≡ some answer
-    pub judged : judgeChunk S span lent-records lent-work ≡ fails answer
     pub records-cleared : records′ ≡ replicate lent-records 0
     pub work-cleared : work′ ≡ replicate lent-work 0
 

@@ -16,7 +16,7 @@ ghost use Rattle.rules.specs.Script.{script};
 ghost use Rattle.opening.specs.Ready.{Listable, Marked, spanOf};
 ghost use Rattle.demand.specs.Span.{InCode};
 ghost use Rattle.answer.specs.Answer.{told};
-ghost use Rattle.opening.specs.Tests.{spanTest, roomTest};
+ghost use Rattle.demand.specs.Chunk.{spanTest, roomTest};
 use answer::Answer;
 use answer::Outcome;
 

@@ -22,7 +22,7 @@ use Rattle.rules.specs.Effects.{needs, pops, pushes}
 use Rattle.machine.specs.Machine as machine
 use Rattle.rules.specs.Needs.{iteratorsNeeded, handlersNeeded}
 use Rattle.rules.specs.Rights.{required, lacking}
-use Rattle.demand.specs.Rule.{rule}
+use Rattle.demand.specs.Rule.{needsTest, rule}
 use Rattle.rules.specs.Script.{Script, tagOf}
 use Rattle.demand.specs.Span.{Span}
 use Rattle.rules.specs.Shapes.{Flow}
@@ -34,8 +34,8 @@ use Rattle.answer.specs.declared.Outcome.{Outcome}
 use Rattle.answer.specs.declared.Outcome.the-variants.{Passed, Refused}
 use Rattle.ruling.specs.declared.Ruling.{Ruling}
 use Rattle.ruling.specs.declared.Ruling.the-variants.{Denies, Gives}
-use Rattle.answer.specs.Answer.{told}
-use Rattle.ruling.specs.Ruling.{needsTest, edgesFrom, leaving, unless, Settles, settled, answers, edgesOf, ruled}
+use Rattle.answer.specs.Answer.{told, unless}
+use Rattle.ruling.specs.Ruling.{edgesFrom, leaving, Settles, settled, answers, edgesOf, ruled}
 
 -- ---- what an instruction needs
 
@@ -150,11 +150,12 @@ next-within code at wide e = omega (arith, width-there widthOf code at wide .tag
 -- ---- the rule
 
 pub stops : {r : Outcome} {answer : Answer} {test : Option Answer} (rest : Ruling) → told r ≡ test → r ≡ Refused answer
-    → Denies answer ≡ unless test rest
+    → Denies answer ≡ unless Denies test rest
 unfolding told unless
 stops rest e p = rw (← e, p)
 
-pub goes-on : {r : Outcome} {test : Option Answer} (rest : Ruling) → told r ≡ test → r ≡ Passed → rest ≡ unless test rest
+pub goes-on : {r : Outcome} {test : Option Answer} (rest : Ruling) → told r ≡ test → r ≡ Passed
+    → rest ≡ unless Denies test rest
 unfolding told unless
 goes-on rest e p = rw (← e, p)
 
@@ -164,30 +165,22 @@ module _ (S : Script) (span : Span) (p : ℕ) (d : Depths) where
   rest = leaving (tagOf S p) (pops (S .code) (S .pools .chains) p) (pushes (S .code) (S .pools .chains) p) (next S p) (span .end) d
 
   -- the rule tests what it needs, and then says the rest
-  in-order : ruled S span p d ≡ unless (needsTest (says.lacks S span p d) (tagOf S p) (says.need S span p d) p d) rest
-  unfolding ruled answers rule needsTest leaving unless
-  in-order =
-      go (ltb 0 (says.lacks S span p d)) (ltb (d .operands) (says.need S span p d)) (ltb (d .iterators) (iteratorsNeeded (tagOf S p)))
-      (ltb (d .handlers) (handlersNeeded (tagOf S p))) (plain (tagOf S p) && leb (span .end) (next S p))
+  abbrev tested : Option Answer
+  tested = needsTest (says.lacks S span p d) (tagOf S p) (says.need S span p d) p d
+
+  in-order : ruled S span p d ≡ unless Denies tested rest
+  unfolding ruled answers rule leaving unless
+  in-order = go tested (plain (tagOf S p) && leb (span .end) (next S p))
     where
-      go : (a b e f g : Bool) → answers
-          (cond a (machine.denies (MissingCaps p (says.lacks S span p d)))
-          (cond b (machine.denies (Underflow p (says.need S span p d) (d .operands)))
-          (cond e (machine.denies (IteratorUnderflow p))
-          (cond f (machine.denies (HandlerUnderflow p))
-          (cond g (machine.denies FallsOffTheEnd)
-          (machine.gives (after S p d .operands) (says.fall S span p d (falls (tagOf S p))) (says.jumps S span p d))))))) (edgesOf S p d)
-          ≡ unless
-          (cond a (some (MissingCaps p (says.lacks S span p d)))
-          (cond b (some (Underflow p (says.need S span p d) (d .operands)))
-          (cond e (some (IteratorUnderflow p)) (cond f (some (HandlerUnderflow p)) none))))
-          (cond g (Denies FallsOffTheEnd) (Gives (edgesOf S p d)))
-      go true b e f g = refl
-      go false true e f g = refl
-      go false false true f g = refl
-      go false false false true g = refl
-      go false false false false true = refl
-      go false false false false false = refl
+      given : machine.Ruling Answer
+      given = machine.gives (after S p d .operands) (says.fall S span p d (falls (tagOf S p))) (says.jumps S span p d)
+
+      go : (test : Option Answer) (off : Bool)
+          → answers (unless machine.denies test (cond off (machine.denies FallsOffTheEnd) given)) (edgesOf S p d)
+          ≡ unless Denies test (cond off (Denies FallsOffTheEnd) (Gives (edgesOf S p d)))
+      go (some answer) off = refl
+      go none true = refl
+      go none false = refl
 
   -- so it says what the code settles
   pub rule-settled : {missing w : ℕ} {effect : Effect}

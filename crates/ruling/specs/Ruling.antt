@@ -8,14 +8,14 @@ use mathlib.Core.Option.{Option, none, some}
 use Prim.Native.Nat.{ℕ, _+_, _^_, _≤_, _<_}
 use lib.Dec.{ltb, leb}
 use Rattle.marks.specs.Marks.{bitAt, isOne}
+use Rattle.answer.specs.Answer.{unless}
 use Rattle.answer.specs.declared.Answer.{Answer}
-use Rattle.answer.specs.declared.Answer.the-variants.{MissingCaps, JumpOutOfRange, JumpIntoAnInstruction, Underflow, FallsOffTheEnd, IteratorUnderflow, HandlerUnderflow}
+use Rattle.answer.specs.declared.Answer.the-variants.{JumpOutOfRange, JumpIntoAnInstruction, FallsOffTheEnd}
 use Rattle.answer.specs.declared.Depths.{Depths}
 use Rattle.rules.specs.declared.Effect.{Effect}
 use Rattle.rules.specs.Edges.{falls, plain, afterOf, jumpedOf, after, jumped, next}
 use Rattle.machine.specs.Machine as machine
-use Rattle.rules.specs.Needs.{iteratorsNeeded, handlersNeeded}
-use Rattle.demand.specs.Rule.{rule}
+use Rattle.demand.specs.Rule.{needsTest, rule}
 use Rattle.rules.specs.Script.{Script, tagOf}
 use Rattle.demand.specs.Span.{Span}
 use Rattle.rules.specs.Shapes.{Flow}
@@ -23,15 +23,7 @@ use Rattle.ruling.specs.declared.Edges.{Edges}
 use Rattle.ruling.specs.declared.Ruling.{Ruling}
 use Rattle.ruling.specs.declared.Ruling.the-variants.{Denies, Gives}
 
--- ---- the tests of an instruction, in numbers
-
--- kind 4, where so much lacks; then 12, 15 and 16, of an instruction of a tag that needs so many operands
-unfoldable pub needsTest : (lacks tag needs at : ℕ) → Depths → Option Answer
-needsTest lacks tag needs at d =
-    cond (ltb 0 lacks) (some (MissingCaps at lacks))
-    (cond (ltb (d .operands) needs) (some (Underflow at needs (d .operands)))
-    (cond (ltb (d .iterators) (iteratorsNeeded tag)) (some (IteratorUnderflow at))
-    (cond (ltb (d .handlers) (handlersNeeded tag)) (some (HandlerUnderflow at)) none)))
+-- ---- an instruction, in numbers
 
 -- the edges of an instruction of a tag that pops and pushes so many, with the place after it
 abbrev pub edgesFrom : (tag pops pushes next : ℕ) → Depths → Edges
@@ -46,15 +38,10 @@ edgesFrom tag pops pushes next d = record {
 unfoldable pub leaving : (tag pops pushes next end : ℕ) → Depths → Ruling
 leaving tag pops pushes next end d = cond (plain tag && leb end next) (Denies FallsOffTheEnd) (Gives (edgesFrom tag pops pushes next d))
 
--- a test decides: a denial, or what else there is to say
-unfoldable pub unless : Option Answer → Ruling → Ruling
-unless none ruling = ruling
-unless (some answer) ruling = Denies answer
-
--- the tests, then the way on, of an instruction of a tag with this effect
+-- the tests of its needs, then the way on, of an instruction of a tag with this effect
 abbrev pub settled : (lacks tag : ℕ) → Effect → (at next end : ℕ) → Depths → Ruling
 settled lacks tag effect at next end d =
-    unless (needsTest lacks tag (effect .needs) at d) (leaving tag (effect .pops) (effect .pushes) next end d)
+    unless Denies (needsTest lacks tag (effect .needs) at d) (leaving tag (effect .pops) (effect .pushes) next end d)
 
 -- what settling builds on: a tag of this flow, an effect that pops what is needed at most and pushes one at most, and depths of
 -- which one more fits a word of 32 bits

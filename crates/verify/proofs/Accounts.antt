@@ -1,5 +1,5 @@
 -- The chunks judged one after the other, by their numbers: how far all of them pass, what that leaves in heights and in the sums, and
--- where the first fails.
+-- where the first fails; and that the paths of the chunks fix these sums.
 use mathlib.Core.Bool.{Bool, true, false}
 use mathlib.Core.List.{List}
 use mathlib.Core.Option.{none}
@@ -26,14 +26,14 @@ use Rattle.answer.specs.declared.verdict.Verdict.{Verdict}
 use Rattle.rules.specs.Script.{Script}
 use Rattle.demand.specs.Span.{Span}
 use Rattle.judging.specs.Spans.{chunkAt}
-use Rattle.verify.specs.Accounts.{sumBelow, Filled, Accounted}
-use Rattle.verify.specs.Call.{Memory, verdictOn, startBits, concluded, onward, outcome, result}
+use Rattle.verify.specs.Accounts.{sumBelow, Measured, Filled, Accounted}
+use Rattle.verify.specs.Call.{Memory, verdictOn, startBits, afterChunks, afterLateTests, afterEarlyTests, result}
 use Rattle.verify.specs.Demand.{ComesToChunks}
-use Rattle.judging.specs.Judging.{Judged, judgeAll}
+use Rattle.judging.specs.Judging.{JudgedAll, judgeAll}
 use Rattle.judging.specs.declared.Judgement.{Judgement}
 use Rattle.judging.specs.declared.Judgement.the-variants.{Passed, Refused}
 use Rattle.judging.proofs.Chain.{chunk-next, judge-none, judge-passes, judge-fails}
-use Rattle.verify.proofs.Chunks.{passes-written, passes-measures, fails-refuses}
+use Rattle.verify.proofs.Chunks.{passes-written, passes-measures, fails-refuses, measured-once}
 
 -- the numbers of a chunk that passes
 unfoldable pub heightIn : chunk.Judged → ℕ
@@ -167,7 +167,7 @@ module _ (I : Input) (spans : List Span) (before : Memory) where
   abbrev pub PassesIn : ℕ → Type 0
   PassesIn = PassesAt (I .script) records work spans
 
-  abbrev judged : Judged
+  abbrev judged : JudgedAll
   judged = judgeAll (I .script) records work spans 0 0 0 (before .heights)
 
   module _ (b : ComesToChunks I before) where
@@ -182,33 +182,39 @@ module _ (I : Input) (spans : List Span) (before : Memory) where
     unfolding marksFrom
     counted = rw (b .early, b .late) at (marks-count I (length (before .heights)) (before .marks) begun)
 
-    judges : result I spans before ≡ concluded I spans before judged
-    unfolding outcome onward
+    judges : result I spans before ≡ afterChunks I spans before judged
+    unfolding afterEarlyTests afterLateTests
     judges = rw (b .early, b .late) refl
 
     -- as far as chunks pass, their heights are measured
     keeps-heights : {n : ℕ} {answer : Judgement} (j : JudgedTo (I .script) records work spans (before .heights) n answer)
         → result I spans before .memory .heights ≡ j .heights
-    unfolding concluded
+    unfolding afterChunks
     keeps-heights j = rw (judges, j .so) refl
+
+    measures : I .chunks ≡ length spans → {n : ℕ} {answer : Judgement}
+        (j : JudgedTo (I .script) records work spans (before .heights) n answer) → n ≤ length spans
+        → ((i : ℕ) → i < n → PassesIn i) → Measured (I .script) spans n (result I spans before .memory .heights)
+    measures same j few p = record {
+      reached-in = reachedAt (I .script) records work spans;
+      taken-in = takenAt (I .script) records work spans;
+      by-paths = λ i l.
+          rw (keeps-heights j, j .held i l (omega (arith, room I _ _ begun .heights-lent, same, few)))
+          (passes-measures I known (chunkAt spans i) records work (p i l));
+    }
 
     fills : I .chunks ≡ length spans → {n : ℕ} {answer : Judgement} (j : JudgedTo (I .script) records work spans (before .heights) n answer)
         → n ≤ length spans → ((i : ℕ) → i < n → PassesIn i) → Filled (I .script) spans n (before .heights) (result I spans before .memory .heights)
-    fills same j few p =
-        rw (keeps-heights j)
-        (record {
-          reached-in = reachedAt (I .script) records work spans;
-          taken-in = takenAt (I .script) records work spans;
-          measured = λ i l.
-              rw (j .held i l (omega (arith, room I _ _ begun .heights-lent, same, few))) (passes-measures I known (chunkAt spans i) records work (p i l));
-          untouched = j .kept;
-          as-many = j .long;
-        })
+    fills same j few p = record {
+      measured = measures same j few p;
+      untouched = rw (keeps-heights j) (j .kept);
+      as-many = rw (keeps-heights j) (j .long);
+    }
 
     -- where a chunk fails after others that pass, it is refused
     pub refuses : (i : ℕ) {a : Answer} → i < length spans → ((j : ℕ) → j < i → PassesIn j) → judgedAt (I .script) records work spans i ≡ fails a
         → result I spans before .verdict ≡ numbered i a
-    unfolding concluded verdictOn
+    unfolding afterChunks verdictOn
     refuses i l p e = rw (judges, judged-fails (I .script) records work spans (before .heights) i l p e .so) refl
 
     -- and the heights of those before it are measured
@@ -224,25 +230,25 @@ module _ (I : Input) (spans : List Span) (before : Memory) where
 
       accepts : result I spans before .verdict
           ≡ numbered noChunk (Accepted (total (startBits I spans before)) (sumBelow (reachedAt (I .script) records work spans) (length spans)) (sumBelow (takenAt (I .script) records work spans) (length spans)))
-      unfolding concluded verdictOn
+      unfolding afterChunks verdictOn
       accepts = rw (judges, all .so) refl
 
       pub accepts-kind : result I spans before .verdict .kind ≡ 0
       unfolding numbered
       accepts-kind = ap (λ (v : Verdict). v .kind) accepts
 
+      pub accepts-chunk : result I spans before .verdict .chunk ≡ noChunk
+      unfolding numbered
+      accepts-chunk = ap (λ (v : Verdict). v .chunk) accepts
+
       pub fills-all : I .chunks ≡ length spans → Filled (I .script) spans (length spans) (before .heights) (result I spans before .memory .heights)
       fills-all same = fills same all (omega arith) p
 
       accounts : I .chunks ≡ length spans → Accounted (I .script) spans (result I spans before .memory .heights) (result I spans before .verdict)
-      unfolding numbered
+      unfolding numbered measures
       accounts same = record {
         written = λ i l. passes-written I known (chunkAt spans i) records work (p i l);
-        reached-in = reachedAt (I .script) records work spans;
-        taken-in = takenAt (I .script) records work spans;
-        measured = λ i l.
-            rw (keeps-heights all, all .held i l (omega (arith, room I _ _ begun .heights-lent, same)))
-            (passes-measures I known (chunkAt spans i) records work (p i l));
+        measured = measures same all (omega arith) p;
         instructions = ap (λ (v : Verdict). v .instructions) accepts ∙ counted;
         reached = ap (λ (v : Verdict). v .reached) accepts;
         taken = ap (λ (v : Verdict). v .taken) accepts;
@@ -261,3 +267,19 @@ module _ (I : Input) (spans : List Span) (before : Memory) where
     pub accounted : I .chunks ≡ length spans → result I spans before .verdict .kind ≡ 0
         → Accounted (I .script) spans (result I spans before .memory .heights) (result I spans before .verdict)
     accounted same z = accounts (all-passed z) same
+
+-- ---- the sums are fixed by the paths
+
+same-below : (f g : ℕ → ℕ) (n : ℕ) → ((i : ℕ) → i < n → f i ≡ g i) → sumBelow f n ≡ sumBelow g n
+unfolding sumBelow
+same-below f g zero same = refl
+same-below f g (suc n) same = rw (same-below f g n (λ i l. same i (omega arith)), same n (omega arith)) refl
+
+-- whatever measures these chunks has the same sums
+module _ {S : Script} {spans : List Span} {n : ℕ} {heights heights′ : List ℕ}
+    (m : Measured S spans n heights) (m′ : Measured S spans n heights′) where
+  pub reached-once : sumBelow (m .reached-in) n ≡ sumBelow (m′ .reached-in) n
+  reached-once = same-below _ _ n (λ i l. measured-once (m .by-paths i l) (m′ .by-paths i l) .same-reached)
+
+  pub taken-once : sumBelow (m .taken-in) n ≡ sumBelow (m′ .taken-in) n
+  taken-once = same-below _ _ n (λ i l. measured-once (m .by-paths i l) (m′ .by-paths i l) .same-taken)

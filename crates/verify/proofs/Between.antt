@@ -33,7 +33,7 @@ use Rattle.verify.specs.declared.stages.State.{State}
 use Rattle.verify.specs.declared.stages.State.the-variants.{Going, Ended}
 use Rattle.judging.specs.Spans.{chunkAt}
 use Rattle.verify.specs.Call.{Memory, BothClear, marksOn, Calls}
-use Rattle.judging.specs.Judging.{Judged, judgeAll, Judges}
+use Rattle.judging.specs.Judging.{JudgedAll, judgeAll, Judges}
 use Rattle.verify.specs.Stages.{mostReached, mostTaken, opened, wordsOn, Begins, advanced, marksThen, Advances, Fits, Few, Asks, Takes, goesOn, finished}
 use Rattle.judging.proofs.Chain.{judge-passes, judge-fails, judge-none, Judging, judging-first, judging-done, judging-fails, judging-passes}
 use Rattle.verify.proofs.Small.{small}
@@ -143,7 +143,7 @@ few-all : (S : Script) (records work : ℕ) → Ready S → (spans : List Span) 
     → (r ≤ reached + length spans * mostReached) × (t ≤ taken + length spans * mostTaken)
 few-all S records work R [] number reached taken heights r t e =
     let none-left = judge-none S records work number reached taken heights in
-    let so : AllPass reached taken ≡ AllPass r t = sym (ap (λ (j : Judged). j .answer) none-left) ∙ e in
+    let so : AllPass reached taken ≡ AllPass r t = sym (ap (λ (j : JudgedAll). j .answer) none-left) ∙ e in
     let same-reached : reached ≡ r = cc so in
     let same-taken : taken ≡ t = cc so in
     (omega (arith, same-reached), omega (arith, same-taken))
@@ -156,10 +156,12 @@ few-all S records work R (span ∷ spans) number reached taken heights r t e = g
     go (passes height more further) q rest =
         let s = small S R span records work q in
         let others = rest (number + 1) (reached + more) (taken + further) (set heights number height) r t
-        (sym (ap (λ (j : Judged). j .answer) (judge-passes S records work span spans number reached taken heights q)) ∙ e) in
+        (sym (ap (λ (j : JudgedAll). j .answer)
+        (judge-passes S records work span spans number reached taken heights q)) ∙ e) in
         (omega (arith, others .0, s .few-reached), omega (arith, others .1, s .few-taken))
     go (fails a) q rest =
-        let so : Failed number a ≡ AllPass r t = sym (ap (λ (j : Judged). j .answer) (judge-fails S records work span spans number reached taken heights q)) ∙ e in
+        let failed = judge-fails S records work span spans number reached taken heights q in
+        let so : Failed number a ≡ AllPass r t = sym (ap (λ (j : JudgedAll). j .answer) failed) ∙ e in
         absurd (zero≢one (cc))
 
 module _ {S : Script} {records work : ℕ} {span : Span} {number : ℕ} {heights : List ℕ} {judgement : Judgement} {heights′ records′ work′ : List ℕ}
@@ -183,7 +185,7 @@ module _ (I : Input) (spans : List Span) (before : Memory) where
   abbrev rooms : ℕ
   rooms = length (before .work)
 
-  abbrev all : Judged
+  abbrev all : JudgedAll
   all = judgeAll S words rooms spans 0 0 0 (before .heights)
 
   abbrev holding : (marks heights records work : List ℕ) → Memory

@@ -1,21 +1,16 @@
 -- The counts of a chunk that passes are small.
-use mathlib.Core.Bool.{Bool, true, false, cond}
-use mathlib.Core.List.{[]}
-use mathlib.Core.Path.{_≡_, refl, sym, _∙_}
+use mathlib.Core.Path.{_≡_, sym, _∙_}
 use Prim.Native.Nat.{ℕ, _+_, _^_, _≤_}
 use native.Mathlib.Omega.{arith}
-use lib.Dec.{ltb}
 use Rattle.opening.specs.Ready.{Ready}
 use Rattle.pools.proofs.Most.{code-small, room-small}
-use Rattle.answer.specs.declared.Answer.{Answer}
-use Rattle.answer.specs.declared.Answer.the-variants.{StackExceedsDeclared}
-use Rattle.demand.specs.Chunk.{Judged, passes, fails, measured, walked, judgeChunk, BeforeWalk}
+use Rattle.demand.specs.Chunk.{passes, walked, judgeChunk, BeforeWalk}
 use Rattle.demand.specs.Span.{E}
 use Rattle.demand.specs.Rule.{machine}
 use Rattle.rules.specs.Script.{Script}
 use Rattle.demand.specs.Span.{Span}
-use Rattle.machine.specs.Walk.{Run, accepted, refused, unfinished, Log, log, walk}
-use Rattle.demand.proofs.Demand.{judged-walks, few-instructions}
+use Rattle.demand.proofs.Demand.{fails-by, passes-to, Height, above, within, within-or-above}
+use Rattle.demand.proofs.Demand.{Told, accepts, refuses, walk-told, judged-walks, few-instructions}
 use Rattle.machine.proofs.Ends.{accepted-bounded}
 use Rattle.demand.proofs.Keeps.{keeps-laws}
 use Rattle.answer.proofs.Apart.{zero≢one}
@@ -45,22 +40,24 @@ module _ (S : Script) (R : Ready S) (span : Span) (records work : ℕ) where
     pub few-taken : taken ≤ mostTaken
 
   pub small : {h r t : ℕ} → judgeChunk S span records work ≡ passes h r t → Small r t
-  unfolding walked measured E
-  small {h} {r} {t} e = go (walk (machine S span) log (1 + E S span) []) refl (sym (judged-walks S span (before e)) ∙ e)
+  unfolding E
+  small {h} {r} {t} e = go (walk-told S span (before e))
     where
-      go : (o : Run Answer Log) → walk (machine S span) log (1 + E S span) [] ≡ o → measured (span .declared) o ≡ passes h r t → Small r t
-      go (accepted b) q f = by-height (ltb (span .declared) (b .height)) f
+      judged : walked S span ≡ passes h r t
+      judged = sym (judged-walks S span (before e)) ∙ e
+
+      go : Told S span (before e) → Small r t
+      go (accepts b q j) = by-height (within-or-above (b .height) (span .declared))
         where
-          by-height : (x : Bool) → _≡_ {A = Judged} (cond x (fails (StackExceedsDeclared (b .height) (span .declared))) (passes (b .height) (b .reached) (b .taken))) (passes h r t)
-              → Small r t
-          by-height true f = absurd (zero≢one (cc))
-          by-height false f =
+          by-height : Height (b .height) (span .declared) → Small r t
+          by-height (above l p) = let both = sym (j ∙ fails-by _ p) ∙ judged in absurd (zero≢one (cc))
+          by-height (within l p) =
+              let both = sym (j ∙ passes-to _ p) ∙ judged in
               let most = accepted-bounded (machine S span) (keeps-laws S span (before e)) (1 + E S span) q .0 in
-              let same-reached : b .reached ≡ r = cc f in
-              let same-taken : b .taken ≡ t = cc f in
+              let same-reached : b .reached ≡ r = cc both in
+              let same-taken : b .taken ≡ t = cc both in
               record {
                 few-reached = omega (arith, most .few, few-instructions S span (before e), R .listable .small, same-reached, code-small);
                 few-taken = omega (arith, most .room, few-edges S R span (before e), same-taken, room-small);
               }
-      go (refused x u) q f = absurd (zero≢one (cc))
-      go (unfinished w b) q f = absurd (zero≢one (cc))
+      go (refuses a q j) = absurd (zero≢one (cc (j, judged)))

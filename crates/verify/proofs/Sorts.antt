@@ -1,24 +1,21 @@
--- Which kinds the tests give: those before any store 1 to 3, those after it none of these and not 0; those of a chunk and of its walk
--- not 0, and their verdicts name the chunk.
-use mathlib.Core.Bool.{Bool, true, false, not, _||_, cond}
+-- Which kinds the tests give: those before any store 1 to 3, those after it none of these and not 0, and neither
+-- names a chunk; those of a chunk 3, 7 and 8, those of its walk 4 and 9 to 16, and their verdicts name the chunk.
+use mathlib.Core.Bool.{Bool, true, false, cond}
 use mathlib.Core.List.{List, [], _∷_}
 use mathlib.Core.Logic.{_⊎_, inl, inr}
 use mathlib.Core.Option.{none, some}
 use mathlib.Core.Path.{_≡_, refl, sym, subst}
-use Prim.Native.Nat.{ℕ, _+_, _*_, _≤_, _<_}
+use Prim.Native.Nat.{ℕ, _≤_, _<_}
 use native.Mathlib.Omega.{arith}
 use lib.Dec.{ltb, leb, eqb}
 use lib.ListN.{length}
 use Rattle.before.specs.Before.{Test, first, limitsTest, tablesTest, roomTest, rightsTest, constantsTest, functionTest, widthTest, indicesTest, codeTest, earlyTests, lateTests}
 use Rattle.before.proofs.Pass.{code-on, code-stop}
-use Rattle.code.specs.Layout.{among}
 use Rattle.code.specs.Width.{widthOf}
 use Rattle.indices.specs.Indices as reference
 use Rattle.indices.specs.declared.Sizes as counted
-use Rattle.listing.specs.Listing.{starts}
 use Rattle.listing.proofs.Starts.{all-within}
 use Rattle.listing.proofs.WalkLaws.{from-end}
-use Rattle.opening.specs.Tests as own
 use Rattle.pools.specs.declared.limits.Sizes.{Sizes}
 use Rattle.pools.specs.Sizes.{firstExceeded}
 use Rattle.pools.specs.Tables.{firstBad}
@@ -29,7 +26,8 @@ use Rattle.demand.specs.Span.{Span}
 use Rattle.answer.proofs.Apart.{zero≢one}
 use Rattle.answer.specs.Answer.{noChunk, numbered}
 use Rattle.answer.specs.declared.Answer.{Answer}
-use Rattle.answer.specs.declared.Answer.the-variants.{TooLarge, BadTable, NoRoom, MissingCaps, Undecodable, BadIndex, ChunkOutOfRange, Misaligned}
+use Rattle.answer.specs.declared.Answer.the-variants.{TooLarge, BadTable, NoRoom, MissingCaps, Undecodable, BadIndex}
+use Rattle.verify.specs.Demand.{Shut, out-of-range, misaligned, few-records, little-work, OpeningKind, WalkKind}
 
 -- P holds of whatever a test answers
 pub record Gives (P : Answer → Type 0) (t : Test) : Type 0 where
@@ -66,19 +64,19 @@ nothing P = none-gives P
 -- ---- before any store
 
 abbrev Early : Answer → Type 0
-Early a = (0 < numbered noChunk a .kind) × (numbered noChunk a .kind ≤ 3)
+Early a = (0 < numbered noChunk a .kind) × (numbered noChunk a .kind ≤ 3) × (numbered noChunk a .chunk ≡ noChunk)
 
 limit-kind : (a : ℕ) → Early (TooLarge a)
 unfolding numbered
-limit-kind a = (omega arith, omega arith)
+limit-kind a = (omega arith, omega arith, refl)
 
 table-kind : (a b : ℕ) → Early (BadTable a b)
 unfolding numbered
-table-kind a b = (omega arith, omega arith)
+table-kind a b = (omega arith, omega arith, refl)
 
 room-kind : (a b : ℕ) → Early (NoRoom a b)
 unfolding numbered
-room-kind a b = (omega arith, omega arith)
+room-kind a b = (omega arith, omega arith, refl)
 
 module _ (sizes : Sizes) (chains steps switches cases ranges : List ℕ) (marks heights : ℕ) where
   limits : Gives Early (limitsTest sizes)
@@ -102,19 +100,19 @@ module _ (sizes : Sizes) (chains steps switches cases ranges : List ℕ) (marks 
 -- ---- after it
 
 abbrev Late : Answer → Type 0
-Late a = 3 < numbered noChunk a .kind
+Late a = (3 < numbered noChunk a .kind) × (numbered noChunk a .chunk ≡ noChunk)
 
 caps-kind : (a b : ℕ) → Late (MissingCaps a b)
 unfolding numbered
-caps-kind a b = omega arith
+caps-kind a b = (omega arith, refl)
 
 index-kind : (a b c : ℕ) → Late (BadIndex a b c)
 unfolding numbered
-index-kind a b c = omega arith
+index-kind a b c = (omega arith, refl)
 
 decode-kind : (a : ℕ) → Late (Undecodable a)
 unfolding numbered
-decode-kind a = omega arith
+decode-kind a = (omega arith, refl)
 
 rights-kind : (needed rights : ℕ) → Gives Late (rightsTest needed rights)
 unfolding rightsTest
@@ -152,45 +150,44 @@ module _ (sizes : counted.Sizes) (records : reference.Tables) (code : List ℕ) 
 
 -- ---- of a chunk
 
-abbrev pub Refuses : Answer → Type 0
-Refuses a = (number : ℕ) → (0 < numbered number a .kind) × (numbered number a .chunk ≡ number)
-
-outside-kind : (a b : ℕ) → Refuses (ChunkOutOfRange a b)
-unfolding numbered
-outside-kind a b number = (omega arith, refl)
-
-misaligned-kind : (a : ℕ) → Refuses (Misaligned a)
-unfolding numbered
-misaligned-kind a number = (omega arith, refl)
-
-no-room-kind : (a b : ℕ) → Refuses (NoRoom a b)
-unfolding numbered
-no-room-kind a b number = (omega arith, refl)
-
-pub span-kind : (code : List ℕ) (entry end : ℕ) → Gives Refuses (own.spanTest code entry end)
-unfolding own.spanTest
-span-kind code entry end =
-    other Refuses (ltb end entry || ltb (length code) end) (outside-kind entry end)
-    (other Refuses (not (among entry (starts code) || eqb entry (length code))) (misaligned-kind entry) (none-gives Refuses))
-
-pub fits-kind : (targets edges records work : ℕ) → Gives Refuses (own.roomTest targets edges records work)
-unfolding own.roomTest
-fits-kind targets edges records work =
-    other Refuses (ltb records (4 * (1 + targets))) (no-room-kind (4 * (1 + targets)) 3)
-    (other Refuses (ltb work (4 * (1 + edges))) (no-room-kind (4 * (1 + edges)) 4) (none-gives Refuses))
+-- whatever its number, a verdict with this answer is of such a kind, and names the chunk
+abbrev pub Tells : (Kind : ℕ → Type 0) → Answer → Type 0
+Tells Kind a = (number : ℕ) → Kind (numbered number a .kind) × (numbered number a .chunk ≡ number)
 
 module _ (S : Script) (span : Span) where
-  pub real-kind : {a : Answer} → Real S span a ⊎ Exceeds S span a → Refuses a
+  pub shut-kind : {records work : ℕ} {a : Answer} → Shut S span records work a → Tells OpeningKind a
+  unfolding numbered
+  shut-kind (out-of-range h) = λ n. (inr (omega arith, omega arith), refl)
+  shut-kind (misaligned o i s e) = λ n. (inr (omega arith, omega arith), refl)
+  shut-kind (few-records i h) = λ n. (inl refl, refl)
+  shut-kind (little-work i r h) = λ n. (inl refl, refl)
+
+  pub real-kind : {a : Answer} → Real S span a ⊎ Exceeds S span a → Tells WalkKind a
   unfolding numbered
   real-kind (inl r) = real r
     where
-      real : {a : Answer} → Real S span a → Refuses a
-      real (lacks-rights m l) = λ n. (omega arith, refl)
-      real (leaves m able t out) = λ n. (omega arith, refl)
-      real (splits m able t from to none-starts) = λ n. (omega arith, refl)
-      real (disagrees m k d) = λ n. (omega arith, refl)
-      real (underflows m r l) = λ n. (omega arith, refl)
-      real (runs-off p e) = λ n. (omega arith, refl)
-      real (no-iterator m r o l) = λ n. (omega arith, refl)
-      real (no-handler m r o l) = λ n. (omega arith, refl)
-  real-kind (inr x) = rw (x .answer) (λ n. (omega arith, refl))
+      real : {a : Answer} → Real S span a → Tells WalkKind a
+      real (lacks-rights m l) = λ n. (inl refl, refl)
+      real (leaves m able t out) = λ n. (inr (omega arith, omega arith), refl)
+      real (splits m able t from to none-starts) = λ n. (inr (omega arith, omega arith), refl)
+      real (disagrees m k d) = λ n. (inr (omega arith, omega arith), refl)
+      real (underflows m r l) = λ n. (inr (omega arith, omega arith), refl)
+      real (runs-off p e) = λ n. (inr (omega arith, omega arith), refl)
+      real (no-iterator m r o l) = λ n. (inr (omega arith, omega arith), refl)
+      real (no-handler m r o l) = λ n. (inr (omega arith, omega arith), refl)
+  real-kind (inr x) = rw (x .answer) (λ n. (inr (omega arith, omega arith), refl))
+
+-- neither kind is 0, and none is both
+pub opening-refuses : {kind : ℕ} → OpeningKind kind → 0 < kind
+opening-refuses (inl e) = omega arith
+opening-refuses (inr h) = omega arith
+
+pub walk-refuses : {kind : ℕ} → WalkKind kind → 0 < kind
+walk-refuses (inl e) = omega arith
+walk-refuses (inr h) = omega arith
+
+pub kinds-apart : {kind : ℕ} → OpeningKind kind → WalkKind kind → ⊥
+kinds-apart (inl e) (inl f) = omega arith
+kinds-apart (inl e) (inr g) = omega arith
+kinds-apart (inr h) (inl f) = omega arith
+kinds-apart (inr h) (inr g) = omega arith

@@ -21,7 +21,7 @@ use Rattle.pools.proofs.LimitLaws.{code-kept, cases-kept, ranges-kept}
 use Rattle.pools.proofs.Most.{code-small}
 use Rattle.pools.proofs.TableLaws.{chains-within, switches-within}
 use Rattle.answer.specs.Answer.{noChunk, numbered, told}
-use Rattle.demand.specs.Chunk.{passes, fails, measured, judgeChunk, walked}
+use Rattle.demand.specs.Chunk.{openTest, passes, fails, measured, judgeChunk, walked}
 use Rattle.demand.specs.Chunk as chunk
 use Rattle.answer.specs.declared.Answer.{Answer}
 use Rattle.answer.specs.declared.Answer.the-variants.{Accepted}
@@ -37,10 +37,11 @@ use Rattle.machine.specs.Walk.{walk, log}
 use Rattle.rules.specs.Script.{Script, script}
 use Rattle.demand.specs.Span.{Span}
 use Rattle.answer.proofs.Apart.{zero≢one}
-use Rattle.judging.specs.Judging.{Judged, judgeAll, Judges}
+use Rattle.judging.specs.Judging.{judgeAll, Judges}
 use Rattle.judging.specs.declared.Judgement.{Judgement}
 use Rattle.judging.specs.declared.Judgement.the-variants.{Passed as AllPass, Refused as Failed}
-use Rattle.verify.specs.Call.{Memory, BothClear, verdictOn, marksOn, startBits, concluded, onward, outcome, result, Calls}
+use Rattle.verify.specs.Call.{Memory, BothClear, verdictOn, marksOn, startBits}
+use Rattle.verify.specs.Call.{afterChunks, afterLateTests, afterEarlyTests, result, Calls}
 use Rattle.verify.specs.Demand.{ComesToChunks}
 use Rattle.verify.proofs.Accounts.{accounted}
 use Rattle.judging.proofs.Chain.{judge-passes, judge-fails}
@@ -75,7 +76,7 @@ same-walked S span = ap (λ (ts : List ℕ). measured (span .declared) (walk (wi
     }
 
 same-chunk : (S : Script) (span : Span) (records work : ℕ) → judgeChunk (bare S) span records work ≡ judgeChunk S span records work
-unfolding judgeChunk T E degree
+unfolding judgeChunk openTest T E degree
 same-chunk S span records work = rw (same-walked S span) refl
 
 pub same-judged : (S : Script) (records work : ℕ) (spans : List Span) (number reached taken : ℕ) (heights : List ℕ)
@@ -173,7 +174,7 @@ module _ (I : Input) (spans : List Span) (before : Memory) where
     -- of kinds 1 to 3 nothing is stored
     pub untouched : numbered noChunk a .kind ≤ 3 → {r : Verdict} → r ≡ numbered noChunk a
         → Calls I spans before r (record { marks = marks′; heights = before .heights; records = before .records; work = before .work })
-    unfolding outcome marksFrom early
+    unfolding afterEarlyTests marksFrom early
     untouched low {r} v = go (which refused-so)
       where
         go : (early ≡ some a) ⊎ ((early ≡ none) × (afterStores I ≡ some a)) → Calls I spans before r (record { marks = marks′; heights = before .heights; records = before .records; work = before .work })
@@ -184,7 +185,7 @@ module _ (I : Input) (spans : List Span) (before : Memory) where
     pub zeroed-all : 3 < numbered noChunk a .kind → {r : Verdict} → r ≡ numbered noChunk a → {records′ work′ : List ℕ}
         → BothClear (before .records) (before .work) records′ work′
         → Calls I spans before r (record { marks = marks′; heights = before .heights; records = records′; work = work′ })
-    unfolding outcome onward marksFrom marksOf early
+    unfolding afterEarlyTests afterLateTests marksFrom marksOf early
     zeroed-all high {r} v {records′} {work′} c = go (which refused-so)
       where
         go : (early ≡ some a) ⊎ ((early ≡ none) × (afterStores I ≡ some a)) → Calls I spans before r (record { marks = marks′; heights = before .heights; records = records′; work = work′ })
@@ -220,7 +221,7 @@ module _ (I : Input) (spans : List Span) (before : Memory) where
         → Judges (bare (I .script)) words rooms spans 0 (before .heights) judgement heights′ records′ work′
         → {r : Verdict} {marks″ : List ℕ} → Concludes judgement marks′ r marks″ → I .chunks ≡ length spans
         → Calls I spans before r (record { marks = marks″; heights = heights′; records = records′; work = work′ })
-    unfolding outcome onward concluded early
+    unfolding afterEarlyTests afterLateTests afterChunks early
     judged-call same same-work {judgement} {heights′} {records′} {work′} given {r} {marks″} c chunks =
         let j = rw (same, same-work) at given in
         let all = same-judged (I .script) (length (before .records)) (length (before .work)) spans 0 0 0 (before .heights) in

@@ -18,7 +18,7 @@ use Rattle.demand.specs.Span.{Span}
 use Rattle.judging.specs.declared.Judgement.{Judgement}
 use Rattle.judging.specs.declared.Judgement.the-variants.{Passed, Refused}
 use Rattle.verify.specs.Accounts.{Accounted}
-use Rattle.judging.specs.Judging.{Judged, judgeAll}
+use Rattle.judging.specs.Judging.{JudgedAll, judgeAll}
 
 -- the lent memory
 pub record Memory : Type 0 where
@@ -47,9 +47,9 @@ marksOn (Passed reached taken) marks = marks
 marksOn (Refused chunk a) marks = replicate (length marks) 0
 
 module _ (I : Input) (spans : List Span) (before : Memory) where
-  -- after the first store: these marks and heights, and nothing in records and work
-  abbrev pub stored : (marks heights : List ℕ) → Memory
-  stored marks heights = record {
+  -- the memory once there was a store: these marks and heights, and nothing in records and work
+  abbrev pub afterFirstStore : (marks heights : List ℕ) → Memory
+  afterFirstStore marks heights = record {
     marks = marks;
     heights = heights;
     records = replicate (length (before .records)) 0;
@@ -60,22 +60,30 @@ module _ (I : Input) (spans : List Span) (before : Memory) where
   abbrev pub startBits : List ℕ
   startBits = marksOf (I .script .code) none (length (before .marks))
 
-  -- the chunks are judged
-  unfoldable pub concluded : Judged → Result
-  concluded judged = record { verdict = verdictOn (judged .answer) startBits; memory = stored (marksOn (judged .answer) startBits) (judged .heights) }
+  -- the result once the chunks are judged
+  unfoldable pub afterChunks : JudgedAll → Result
+  afterChunks judged = record {
+    verdict = verdictOn (judged .answer) startBits;
+    memory = afterFirstStore (marksOn (judged .answer) startBits) (judged .heights);
+  }
 
-  -- the tests after the first store
-  unfoldable pub onward : Test → Result
-  onward (some a) = record { verdict = numbered noChunk a; memory = stored (replicate (length (before .marks)) 0) (before .heights) }
-  onward none = concluded (judgeAll (I .script) (length (before .records)) (length (before .work)) spans 0 0 0 (before .heights))
+  -- once the tests after the first store came to this: a refusal, or the chunks are judged
+  unfoldable pub afterLateTests : Test → Result
+  afterLateTests (some a) = record {
+    verdict = numbered noChunk a;
+    memory = afterFirstStore (replicate (length (before .marks)) 0) (before .heights);
+  }
+  afterLateTests none =
+      afterChunks
+      (judgeAll (I .script) (length (before .records)) (length (before .work)) spans 0 0 0 (before .heights))
 
-  -- all of them
-  unfoldable pub outcome : Test → Result
-  outcome (some a) = record { verdict = numbered noChunk a; memory = before }
-  outcome none = onward (afterStores I)
+  -- once the tests before any store came to this: a refusal, or the tests after the first store are made
+  unfoldable pub afterEarlyTests : Test → Result
+  afterEarlyTests (some a) = record { verdict = numbered noChunk a; memory = before }
+  afterEarlyTests none = afterLateTests (afterStores I)
 
   abbrev pub result : Result
-  result = outcome (beforeStores I (length (before .marks)) (length (before .heights)))
+  result = afterEarlyTests (beforeStores I (length (before .marks)) (length (before .heights)))
 
   -- what a call comes to; and an acceptance, kind 0, answers for every chunk
   pub record Calls (r : Verdict) (after : Memory) : Type 0 where

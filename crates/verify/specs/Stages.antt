@@ -24,7 +24,7 @@ use Rattle.judging.specs.declared.Judgement.the-variants.{Passed, Refused}
 use Rattle.verify.specs.declared.stages.State.{State}
 use Rattle.verify.specs.declared.stages.State.the-variants.{Going, Ended}
 use Rattle.verify.specs.Call.{marksOn}
-use Rattle.judging.specs.Judging.{Judged, judgeAll}
+use Rattle.judging.specs.Judging.{JudgedAll, judgeAll}
 
 -- ---- before the chunks
 
@@ -91,7 +91,7 @@ pub record Asks (S : Script) (number : ℕ) (state : State) (marks heights recor
 
 -- and what it comes to, where so many words of records and of work are lent
 module _ (S : Script) (records work : ℕ) (span : Span) (number : ℕ) (state : State) (marks heights : List ℕ) where
-  abbrev pub judged : Judged
+  abbrev pub judged : JudgedAll
   judged = judgeAll S records work (span ∷ []) number 0 0 heights
 
   pub record Takes (r : State) (marks′ heights′ records′ work′ : List ℕ) : Type 0 where

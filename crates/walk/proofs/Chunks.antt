@@ -1,16 +1,14 @@
 -- A chunk's walk, item by item over the words, is the walk of the definition: it begins, goes on, and ends as that one does.
-use mathlib.Core.Bool.{cond}
 use mathlib.Core.List.{List, [], _∷_}
 use mathlib.Core.Path.{_≡_, refl, sym, ap, _∙_, subst}
 use Prim.Native.Nat.{ℕ, _+_, _-_, _≤_}
 use native.Mathlib.Omega.{arith}
-use lib.Dec.{ltb}
 use lib.ListN.{length}
 use Rattle.code.specs.Width.{widthOf}
 use Rattle.listing.proofs.Before.{before-few}
 use Rattle.answer.specs.declared.Answer.{Answer}
-use Rattle.answer.specs.declared.Answer.the-variants.{StackExceedsDeclared}
-use Rattle.demand.specs.Chunk.{passes, fails, measured, walked, judgeChunk, redeclared, BeforeWalk}
+use Rattle.answer.specs.Answer.{unless}
+use Rattle.demand.specs.Chunk.{passes, fails, heightTest, measured, walked, judgeChunk, redeclared, BeforeWalk}
 use Rattle.answer.specs.Depths.{Item}
 use Rattle.demand.specs.Span.{E}
 use Rattle.machine.specs.Machine.{origin}
@@ -35,7 +33,7 @@ use Rattle.walk.specs.Units.{itemOf, bookWith, bookOf, firstHand, spanOf
 use Rattle.walk.proofs.Store.{Fit, faithful, laid-fit, laid-empty}
 
 measured-as : (declared : ℕ) (b : Book Log) {height reached taken : ℕ} → height ≡ b .height → reached ≡ b .reached → taken ≡ b .taken
-    → measured declared (accepted b) ≡ cond (ltb declared height) (fails (StackExceedsDeclared height declared)) (passes height reached taken)
+    → measured declared (accepted b) ≡ unless fails (heightTest height declared) (passes height reached taken)
 unfolding measured
 measured-as declared b h r t = rw (h, r, t) refl
 
@@ -130,7 +128,7 @@ module _ (S : Script) (room : Room) (words rooms : ℕ) (B : BeforeWalk S (spanO
           rw enough at (stays-accepted (machine S span) log (h .taken + 1) (origin (machine S span) ∷ []) (blank []) (E S span - h .taken) (on-log .1))
 
       pub ended : (declared : ℕ) → judgeChunk S (redeclared span declared) words rooms
-          ≡ cond (ltb declared (last .height)) (fails (StackExceedsDeclared (last .height) declared)) (passes (last .height) (last .reached) (last .taken))
+          ≡ unless fails (heightTest (last .height) declared) (passes (last .height) (last .reached) (last .taken))
       ended declared = let t = on-log .2 in judged-so declared whole-walk ∙ measured-as declared (on-log .0) (t .height) (t .reached) (t .taken)
 
     -- a refusal

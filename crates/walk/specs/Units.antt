@@ -2,16 +2,15 @@
 -- last".
 use mathlib.Core.Bool.{true, false, _&&_, cond}
 use mathlib.Core.List.{List, [], _∷_, _++_, map}
-use mathlib.Core.Option.{Option, none, some}
+use mathlib.Core.Option.{none}
 use mathlib.Core.Path.{_≡_}
 use Prim.Native.Nat.{ℕ, _+_, _*_, _^_, _≤_, _<_, max}
 use lib.Dec.{ltb, eqb}
 use lib.ListN.{length, getD, set, take, drop, replicate}
 use Rattle.order.specs.Order.{Rising, below}
 use Rattle.answer.specs.declared.Answer.{Answer}
-use Rattle.answer.specs.declared.Answer.the-variants.{StackExceedsDeclared}
 use Rattle.answer.specs.declared.Depths.{Depths}
-use Rattle.demand.specs.Chunk.{BeforeWalk}
+use Rattle.demand.specs.Chunk.{heightTest, BeforeWalk}
 use Rattle.answer.specs.Depths.{Item, zeros}
 use Rattle.demand.specs.Span.{T}
 use Rattle.demand.specs.Rule.{machine}
@@ -221,10 +220,6 @@ zeroed n words = replicate n 0 ++ drop n words
 pub record Abandoned (used waited : ℕ) (records work records′ work′ : List ℕ) : Type 0 where
   pub records-zeroed : records′ ≡ zeroed used records
   pub work-zeroed : work′ ≡ zeroed waited work
-
--- 14, after a walk that refuses nothing
-unfoldable pub heightTest : (height declared : ℕ) → Option Answer
-heightTest height declared = cond (ltb declared height) (some (StackExceedsDeclared height declared)) none
 
 -- so many words of records were cleared, and the height is stored where it passes
 pub record Closed (used height declared chunk : ℕ) (heights records : List ℕ) (r : Outcome) (heights′ records′ : List ℕ) : Type 0 where

@@ -16,6 +16,7 @@ use Rattle.demand.specs.Chunk.{judgeChunk, redeclared}
 use Rattle.rules.specs.Script.{Script, script}
 use Rattle.demand.specs.Span.{Span}
 use Rattle.answer.specs.declared.Answer.{Answer}
+use Rattle.demand.proofs.Demand.{fails-by, passes-to, judged-shut}
 use Rattle.walk.specs.declared.Counts.{Counts}
 use Rattle.walk.specs.declared.Hand.{Hand}
 use Rattle.walk.specs.declared.Turn.the-variants.{Next, Done, Refused}
@@ -267,7 +268,7 @@ call-again c =
     let few = ended-few W g in
     let closed = closed-well (c .before .before .before .before .before .before .before .before .close-chunk .ensures) (c .before .before .enum-told .given .1) in
     judging-passes _ _ _ _ _ _ (c .before .before .before .before .before .before .before .before .before .before .before .before .before .before .before .before .before .before .before .before .before .before .before .before .before .before .before .before .before .before .before .before .before .before .before .before .before .before .call .inv) (here (c .before .before .before .before .before .before .before .before .before .before .before .before .before .before .before .before .before .before .before .before .before .before .before .before .before .before .before .before .before .before .before .before .before .before .before .before .before)) (span-there _ _ _ _ (here (c .before .before .before .before .before .before .before .before .before .before .before .before .before .before .before .before .before .before .before .before .before .before .before .before .before .before .before .before .before .before .before .before .before .before .before .before .before)))
-    (sym (judged (c .before .before .before .before .before .before .before .before .before .before .before .before .before .before .before .before .before .before .before .before .before .before .before .before .before .before) _) ∙ ended-judged W g _ ∙ rw (closed .low) refl)
+    (sym (judged (c .before .before .before .before .before .before .before .before .before .before .before .before .before .before .before .before .before .before .before .before .before .before .before .before .before .before) _) ∙ ended-judged W g _ ∙ passes-to _ (closed .low))
     (omega (arith, code-small, few .reached, ready (c .before .before .before .before .before .before .before .before .before .before .before .before .before .before .before .before .before .before .before .before .before .before .before .before .before .before .before .before .before .before .before .before .before .before .before .before .before .before) .listable .small)) (omega (arith, room-small, few .taken, few-edges _ (ready (c .before .before .before .before .before .before .before .before .before .before .before .before .before .before .before .before .before .before .before .before .before .before .before .before .before .before .before .before .before .before .before .before .before .before .before .before .before .before)) _ (lent (walking (c .before .before .before .before .before .before .before .before .before .before .before .before .before .before .before .before .before .before .before .before .before .before))))) (closed .stored)
     (ended-records W g (records-kept (c .before .before .before .before .before .before .before .before .before .before .before .before .before .before .before) ∙ W .records-long) (c .before .before .before .before .before .before .before .before .close-chunk .ensures .records-zeroed))
     (ended-work W g (work-kept (c .before .before .before .before .before .before .before .before .before .before .before .before .before .before .before) ∙ W .work-long))
@@ -275,7 +276,7 @@ call-again c =
 returns-2 : tie.Need-returns-2 Inv-items μ-items Inv-call μ-call
 returns-2 c =
     let refused = opens-refused _ _ _ _ _ _ _ (opens (c .before .before .before .before .before .before .before) _) (c .before .opened .given .1) in
-    judging-fails _ _ _ _ _ _ (c .before .before .before .before .before .before .before .before .before .before .before .before .before .call .inv) (here (c .before .before .before .before .before .before .before .before .before .before .before .before)) (span-there _ _ _ _ (here (c .before .before .before .before .before .before .before .before .before .before .before .before))) (refused .judged) refl (refused .records-cleared) (refused .work-cleared)
+    judging-fails _ _ _ _ _ _ (c .before .before .before .before .before .before .before .before .before .before .before .before .before .call .inv) (here (c .before .before .before .before .before .before .before .before .before .before .before .before)) (span-there _ _ _ _ (here (c .before .before .before .before .before .before .before .before .before .before .before .before))) (judged-shut _ _ _ _ (refused .tested)) refl (refused .records-cleared) (refused .work-cleared)
 
 same-length-4 : tie.Need-same-length-4 Inv-items μ-items Inv-call μ-call
 same-length-4 c = search needs
@@ -308,7 +309,7 @@ returns-4 c =
     let g = ends (c .before .before .before .before .before .before .before .before .before .before .before .before .before .before) (c .before .before .before .before .before .before .before .before .before .before .before .before .turn2 .given .1) in
     let above = closed-above (c .before .before .before .before .before .before .before .close-chunk .ensures) (c .before .closed .given .1) in
     judging-fails _ _ _ _ _ _ (c .before .before .before .before .before .before .before .before .before .before .before .before .before .before .before .before .before .before .before .before .before .before .before .before .before .before .before .before .before .before .before .before .before .before .before .before .before .call .inv) (here (c .before .before .before .before .before .before .before .before .before .before .before .before .before .before .before .before .before .before .before .before .before .before .before .before .before .before .before .before .before .before .before .before .before .before .before .before)) (span-there _ _ _ _ (here (c .before .before .before .before .before .before .before .before .before .before .before .before .before .before .before .before .before .before .before .before .before .before .before .before .before .before .before .before .before .before .before .before .before .before .before .before)))
-    (sym (judged (c .before .before .before .before .before .before .before .before .before .before .before .before .before .before .before .before .before .before .before .before .before .before .before .before .before) _) ∙ ended-judged W g _ ∙ rw (above .high, above .which) refl) (above .kept)
+    (sym (judged (c .before .before .before .before .before .before .before .before .before .before .before .before .before .before .before .before .before .before .before .before .before .before .before .before .before) _) ∙ ended-judged W g _ ∙ fails-by _ (above .high)) (above .kept)
     (ended-records W g (records-kept (c .before .before .before .before .before .before .before .before .before .before .before .before .before .before) ∙ W .records-long) (c .before .before .before .before .before .before .before .close-chunk .ensures .records-zeroed))
     (ended-work W g (work-kept (c .before .before .before .before .before .before .before .before .before .before .before .before .before .before) ∙ W .work-long))
 

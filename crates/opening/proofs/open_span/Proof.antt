@@ -4,11 +4,11 @@ use mathlib.Core.Option.{none}
 use mathlib.Core.Path.{_≡_}
 use borrow.Author.Needs.{needs}
 use denote.Ref.{now}
+use Rattle.demand.specs.Chunk.{spanTest}
 use Rattle.rules.specs.Script.{Script}
 use Rattle.demand.specs.Span.{Span}
 use Rattle.rules.specs.Script.{script}
 use Rattle.opening.specs.Ready.{spanOf}
-use Rattle.opening.specs.Tests.{spanTest}
 use Rattle.opening.proofs.Tests.{tells-refusal, tells-none, span-passed}
 use Rattle.opening.proofs.Ways.{refused-by-span, refused-for-room, stored-fit, spare-fits, zeros-behind, ready}
 use Rattle.opening.proofs.open_span.Statement.{statement}

@@ -3,7 +3,7 @@ use mathlib.Core.Path.{refl}
 use borrow.Author.Needs.{needs}
 use borrow.Author.Tests.{lt-ltb, le-ltb}
 use Rattle.answer.specs.Answer.{told}
-use Rattle.walk.specs.Units.{heightTest}
+use Rattle.demand.specs.Chunk.{heightTest}
 use Rattle.walk.proofs.chunk.close_chunk.Statement.{statement}
 use Rattle.walk.proofs.chunk.close_chunk.Tie as tie
 
