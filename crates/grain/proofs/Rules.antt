@@ -1,4 +1,5 @@
 -- Steps for a walk by hand over code with many locals and parameters. They say nothing of this crate.
+--     a ▸ b ▸ tt           the tuple `(a, (b, tt))`
 --     spread               an entry of several parts, nested to the right, made so many entries
 --     past, learns         the parts of a formula that say nothing let go, and what a part says of a `&mut [T]` learned
 --     holds                a function's locals: each holds a value, or is room for one. The block of the local of a number is `L` of it
@@ -35,6 +36,11 @@ use denote.Ref.{RefT}
 use denote.Shadow.{pureL, pureI}
 use denote.Slice.{sliceVal, MutSlice, heres, Room, finally, at-slice, codedHoleys}
 use denote.Steps.{nothing, owned}
+
+infixr 3 _▸_
+-- a tuple nested to the right, which takes as many lines as it needs
+abbrev pub _▸_ {ℓ k} : {A : Type ℓ} {B : Type k} → A → B → A × B
+a ▸ b = (a, b)
 
 module _ {M : Type 1} (𝓤 : URA M) (H : Heap 𝓤) (A : Atoms 𝓤) where
   -- ---- entries
