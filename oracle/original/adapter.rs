@@ -19,15 +19,6 @@ const POOLS: [&str; 7] = [
     "custom syntax site",
 ];
 
-/// The original's answer: the measured heights, or why it refuses.
-///
-/// # Panics
-///
-/// Where `Translated::of` does.
-pub fn verify(input: &Input) -> Result<Vec<u16>, Refusal> {
-    Translated::of(input).verify()
-}
-
 /// An input in the original's types, which can be asked about without translating it again.
 pub struct Translated<'a> {
     tables: Tables<'a>,
@@ -35,23 +26,25 @@ pub struct Translated<'a> {
 }
 
 impl<'a> Translated<'a> {
-    /// # Panics
-    ///
-    /// Where document 01 gives kind 2. Such a table has no form in the original's types, so ask
-    /// only what `comparable` lets through.
-    pub fn of(input: &'a Input) -> Self {
-        Self {
-            tables: Tables::of(input),
+    /// Nothing where a table has no form in the original's types: it is ragged, a word of it has
+    /// no meaning, or a span runs past its table. There document 01 gives kind 2.
+    pub fn of(input: &'a Input) -> Option<Self> {
+        Some(Self {
+            tables: Tables::of(input)?,
             chunks: input.chunks.iter().map(chunk).collect(),
-        }
+        })
     }
 
     /// The measured heights, or why the original refuses.
     pub fn verify(&self) -> Result<Vec<u16>, Refusal> {
-        let Self { tables, chunks } = self;
-        tables
-            .ask(chunks)
-            .map_err(|error| refusal(&error, refused_chunk(tables, chunks)))
+        self.verify_first(self.chunks.len())
+    }
+
+    /// The same with so many chunks alone, from the first on.
+    pub fn verify_first(&self, count: usize) -> Result<Vec<u16>, Refusal> {
+        let chunks = &self.chunks[..count];
+        let answer = self.tables.ask(chunks);
+        answer.map_err(|error| refusal(&error, refused_chunk(&self.tables, chunks)))
     }
 }
 
@@ -96,13 +89,13 @@ struct Tables<'a> {
 }
 
 impl<'a> Tables<'a> {
-    fn of(input: &'a Input) -> Self {
-        Self {
+    fn of(input: &'a Input) -> Option<Self> {
+        Some(Self {
             input,
             constants: input.constants.iter().copied().map(Dynamic).collect(),
-            chains: chains(input),
-            switches: switches(input),
-        }
+            chains: chains(input)?,
+            switches: switches(input)?,
+        })
     }
 
     fn ask(&self, chunks: &[Chunk]) -> Result<Vec<u16>, VerifyError> {
@@ -149,76 +142,74 @@ fn chunk(chunk: &crate::input::Chunk) -> Chunk {
     Chunk::new(chunk.entry, chunk.end, chunk.declared)
 }
 
-fn chains(input: &Input) -> Vec<Chain> {
-    let steps: Rc<[Step]> = records(&input.steps).map(step).collect();
-    let chain = |[root, name, operands, tail, operator, first, count]: [u32; 7]| Chain {
-        root: match root {
-            0 => Root::Local { name },
-            1 => Root::Named { name },
-            2 => Root::This,
-            3 => Root::Temporary,
-            _ => panic!("document 01 knows no such root"),
-        },
-        steps: span(&steps, first, count),
-        tail: match tail {
-            0 => Tail::Read,
-            1 => Tail::Assign { op: None },
-            2 => Tail::Assign { op: Some(operator) },
-            _ => panic!("document 01 knows no such tail"),
-        },
-        operands,
+fn chains(input: &Input) -> Option<Vec<Chain>> {
+    let steps: Rc<[Step]> = records(&input.steps)?.map(step).collect::<Option<_>>()?;
+    let chain = |[root, name, operands, tail, operator, first, count]: [u32; 7]| {
+        Some(Chain {
+            root: match root {
+                0 => Root::Local { name },
+                1 => Root::Named { name },
+                2 => Root::This,
+                3 => Root::Temporary,
+                _ => return None,
+            },
+            steps: span(&steps, first, count)?,
+            tail: match tail {
+                0 => Tail::Read,
+                1 => Tail::Assign { op: None },
+                2 => Tail::Assign { op: Some(operator) },
+                _ => return None,
+            },
+            operands,
+        })
     };
-    records(&input.chains).map(chain).collect()
+    records(&input.chains)?.map(chain).collect()
 }
 
-fn step([kind, name, getter, setter]: [u32; 4]) -> Step {
+fn step([kind, name, getter, setter]: [u32; 4]) -> Option<Step> {
     match kind {
-        0 => Step::Index,
-        1 => Step::Property {
+        0 => Some(Step::Index),
+        1 => Some(Step::Property {
             name,
             getter,
             setter,
-        },
-        2 => Step::Method { name },
-        _ => panic!("document 01 knows no such step"),
+        }),
+        2 => Some(Step::Method { name }),
+        _ => None,
     }
 }
 
-fn switches(input: &Input) -> Vec<Switch> {
-    let cases: Rc<[(u32, u32)]> = records(&input.cases)
+fn switches(input: &Input) -> Option<Vec<Switch>> {
+    let cases: Rc<[(u32, u32)]> = records(&input.cases)?
         .map(|[target, constant]| (target, constant))
         .collect();
-    let ranges: Rc<[SwitchRange]> = records(&input.ranges)
+    let ranges: Rc<[SwitchRange]> = records(&input.ranges)?
         .map(|[target]| SwitchRange { target })
         .collect();
-    let switch = |[case, case_count, range, range_count, default]: [u32; 5]| Switch {
-        cases: Some(Cases(span(&cases, case, case_count))),
-        ranges: span(&ranges, range, range_count),
-        default,
+    let switch = |[case, case_count, range, range_count, default]: [u32; 5]| {
+        Some(Switch {
+            cases: Some(Cases(span(&cases, case, case_count)?)),
+            ranges: span(&ranges, range, range_count)?,
+            default,
+        })
     };
-    records(&input.switches).map(switch).collect()
+    records(&input.switches)?.map(switch).collect()
 }
 
-/// The whole entries of a flat table, which must not be ragged.
-fn records<const N: usize>(words: &[u32]) -> impl Iterator<Item = [u32; N]> + '_ {
-    assert_eq!(
-        words.len() % N,
-        0,
-        "a ragged table has no entries to hand over"
-    );
-    words
-        .chunks_exact(N)
-        .map(|words| words.try_into().expect("it has this length"))
+/// The entries of a flat table, unless it is ragged.
+fn records<const N: usize>(words: &[u32]) -> Option<impl Iterator<Item = [u32; N]> + '_> {
+    let entries = words.chunks_exact(N);
+    let whole = entries.remainder().is_empty();
+    whole.then(|| entries.map(|words| words.try_into().expect("it has this length")))
 }
 
-fn span<T>(table: &Rc<[T]>, first: u32, count: u32) -> Span<T> {
+fn span<T>(table: &Rc<[T]>, first: u32, count: u32) -> Option<Span<T>> {
     let (first, count) = (first as usize, count as usize);
-    assert!(first + count <= table.len(), "a span past its table");
-    Span {
+    (first + count <= table.len()).then(|| Span {
         table: Rc::clone(table),
         first,
         count,
-    }
+    })
 }
 
 /// The original's error as document 01's kind, offset and two numbers.

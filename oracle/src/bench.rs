@@ -1,6 +1,6 @@
 //! Document 01's bench cases with the answers to them, for whoever is asked.
 
-use crate::input::{Chunk, Input, Verdict, NO_CHUNK};
+use crate::input::{Input, Verdict, NO_CHUNK};
 
 /// An input, and all that a right verifier has to say and to leave.
 #[derive(Clone, Debug)]
@@ -97,9 +97,8 @@ pub fn misaligned() -> Input {
     }
 }
 
-/// One chunk over all of the code, declared 9, no rights, no pools.
 fn over(text: &str) -> Input {
-    spanned(text, 0, bytes(text).len() as u32)
+    Input::over(bytes(text))
 }
 
 /// The bytes written in `text`.
@@ -109,16 +108,7 @@ pub fn bytes(text: &str) -> Vec<u8> {
 }
 
 fn spanned(text: &str, entry: u32, end: u32) -> Input {
-    let declared = 9;
-    Input {
-        code: bytes(text),
-        chunks: vec![Chunk {
-            entry,
-            end,
-            declared,
-        }],
-        ..Input::default()
-    }
+    Input::spanned(bytes(text), entry, end)
 }
 
 fn declared(text: &str, declared: u16) -> Input {
@@ -138,16 +128,7 @@ fn accepted(
     Bench {
         name,
         input,
-        verdict: Verdict {
-            kind: 0,
-            chunk: NO_CHUNK,
-            at: 0,
-            p: 0,
-            q: 0,
-            instructions,
-            reached,
-            taken,
-        },
+        verdict: Verdict::accepted(instructions, reached, taken),
         heights: vec![height],
         starts: starts.to_vec(),
     }
@@ -162,16 +143,7 @@ fn refused(
     Bench {
         name,
         input,
-        verdict: Verdict {
-            kind,
-            chunk,
-            at,
-            p,
-            q,
-            instructions: 0,
-            reached: 0,
-            taken: 0,
-        },
+        verdict: Verdict::refused(kind, chunk, at, p, q),
         heights: vec![],
         starts: vec![],
     }

@@ -49,7 +49,7 @@ pub struct Buffer<T> {
 }
 
 impl<T: Cell> Buffer<T> {
-    fn new(len: usize) -> Buffer<T> {
+    pub fn new(len: usize) -> Buffer<T> {
         Buffer {
             cells: (0..len + 2 * GUARD).map(pattern).collect(),
         }

@@ -33,6 +33,28 @@ pub struct Input {
     pub chunks: Vec<Chunk>,
 }
 
+impl Input {
+    /// Document 01's plain case: one chunk over all of the code, declared 9, and nothing else.
+    pub fn over(code: Vec<u8>) -> Input {
+        let end = code.len() as u32;
+        Input::spanned(code, 0, end)
+    }
+
+    /// The same with a chunk from an offset to another.
+    pub fn spanned(code: Vec<u8>, entry: u32, end: u32) -> Input {
+        let declared = 9;
+        Input {
+            code,
+            chunks: vec![Chunk {
+                entry,
+                end,
+                declared,
+            }],
+            ..Input::default()
+        }
+    }
+}
+
 /// The memory lent to a call, which holds something before it and something fixed after it.
 #[derive(Debug)]
 pub struct Lent<'a> {
@@ -57,6 +79,32 @@ pub struct Verdict {
     pub instructions: u64,
     pub reached: u64,
     pub taken: u64,
+}
+
+impl Verdict {
+    /// An acceptance with its three counts.
+    pub const fn accepted(instructions: u64, reached: u64, taken: u64) -> Verdict {
+        Verdict {
+            instructions,
+            reached,
+            taken,
+            ..Verdict::refused(0, NO_CHUNK, 0, 0, 0)
+        }
+    }
+
+    /// A refusal. Its counts are 0.
+    pub const fn refused(kind: u32, chunk: u32, at: u64, p: u64, q: u64) -> Verdict {
+        Verdict {
+            kind,
+            chunk,
+            at,
+            p,
+            q,
+            instructions: 0,
+            reached: 0,
+            taken: 0,
+        }
+    }
 }
 
 /// Anything that can be asked: the oracle, a mock, and the library under test.

@@ -121,7 +121,7 @@ fn frauds() -> Vec<Mock> {
     vec![
         mock("refuses everything", |_, memory| {
             clear(memory);
-            refusal(13)
+            Verdict::refused(13, 0, 0, 0, 0)
         }),
         patched("one height always", |call, verdict| {
             let stored = stored(call.input, verdict);
@@ -143,24 +143,10 @@ fn frauds() -> Vec<Mock> {
             let verdict = oracle::verify(input, memory.lend());
             match verdict.kind {
                 0 => verdict,
-                _ => refusal(0),
+                _ => Verdict::accepted(0, 0, 0),
             }
         }),
     ]
-}
-
-fn refusal(kind: u32) -> Verdict {
-    let chunk = if kind == 0 { NO_CHUNK } else { 0 };
-    Verdict {
-        kind,
-        chunk,
-        at: 0,
-        p: 0,
-        q: 0,
-        instructions: 0,
-        reached: 0,
-        taken: 0,
-    }
 }
 
 fn clear(memory: &mut Memory) {

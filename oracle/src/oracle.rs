@@ -180,16 +180,7 @@ pub fn verify_with(slips: &Slips, input: &Input, lent: Lent) -> Verdict {
 /// The answer that refuses.
 pub(crate) fn refused(chunk: u32, refusal: Refusal) -> Verdict {
     let (kind, at, p, q) = refusal.numbers();
-    Verdict {
-        kind,
-        chunk,
-        at,
-        p,
-        q,
-        instructions: 0,
-        reached: 0,
-        taken: 0,
-    }
+    Verdict::refused(kind, chunk, at, p, q)
 }
 
 /// How many words of records and of work are lent.
@@ -208,16 +199,7 @@ struct Accepted {
 impl Accepted {
     fn verdict(&self) -> Verdict {
         let instructions = self.starts.iter().map(|w| u64::from(w.count_ones())).sum();
-        Verdict {
-            kind: 0,
-            chunk: NO_CHUNK,
-            at: 0,
-            p: 0,
-            q: 0,
-            instructions,
-            reached: self.reached,
-            taken: self.taken,
-        }
+        Verdict::accepted(instructions, self.reached, self.taken)
     }
 }
 

@@ -33,13 +33,10 @@ impl Refusal {
     }
 }
 
-/// Whether the original has to give the same answer: 1, 2, 3 and 8 are document 01's own.
-pub fn comparable(verdict: &Verdict) -> bool {
-    !matches!(verdict.kind, 1 | 2 | 3 | 8)
-}
-
 #[cfg(original)]
-pub use adapter::{changes, disassemble, u16_at, u32_at, verify, width, Translated};
+pub use adapter::{changes, disassemble, u16_at, u32_at, width, Translated};
+#[cfg(original)]
+pub use due::{Answer, Due, Subject};
 
 #[cfg(original)]
 #[path = "../original/stubs.rs"]
@@ -61,3 +58,7 @@ mod text {
 #[cfg(original)]
 #[path = "../original/adapter.rs"]
 mod adapter;
+
+#[cfg(original)]
+#[path = "../original/due.rs"]
+mod due;

@@ -158,16 +158,7 @@ fn judge(
         let measured = walk.chunk(chunk, room);
         *height = measured.map_err(|refusal| (number as u32, refusal))?;
     }
-    Ok(Verdict {
-        kind: 0,
-        chunk: NO_CHUNK,
-        at: 0,
-        p: 0,
-        q: 0,
-        instructions,
-        reached: walk.reached,
-        taken: walk.taken,
-    })
+    Ok(Verdict::accepted(instructions, walk.reached, walk.taken))
 }
 
 fn check_constants(input: &Input) -> Result<(), Refusal> {

@@ -5,19 +5,6 @@ use oracle::input::{Input, Lent, Verdict, NO_CHUNK};
 use oracle::oracle as rules;
 use std::collections::BTreeMap;
 
-#[repr(C)]
-#[derive(Clone, Copy)]
-struct Told {
-    kind: u32,
-    chunk: u32,
-    at: u64,
-    p: u64,
-    q: u64,
-    instructions: u64,
-    reached: u64,
-    taken: u64,
-}
-
 #[link(name = "probe", kind = "static")]
 extern "C" {
     #[allow(clippy::too_many_arguments)]
@@ -46,13 +33,13 @@ extern "C" {
         marks: *mut u64,
         marks_len: usize,
         heights: usize,
-    ) -> Told;
+    ) -> Verdict;
 }
 
 /// What the proved function answers, in the oracle's words.
 fn ask(case: &Case, marks: &mut [u64]) -> Verdict {
     let input = &case.input;
-    let told = unsafe {
+    unsafe {
         probe_before(
             input.rights,
             input.functions,
@@ -79,16 +66,6 @@ fn ask(case: &Case, marks: &mut [u64]) -> Verdict {
             marks.len(),
             case.room.heights,
         )
-    };
-    Verdict {
-        kind: told.kind,
-        chunk: told.chunk,
-        at: told.at,
-        p: told.p,
-        q: told.q,
-        instructions: told.instructions,
-        reached: told.reached,
-        taken: told.taken,
     }
 }
 
@@ -114,16 +91,7 @@ fn is_early(verdict: &Verdict) -> bool {
     verdict.kind != 0 && verdict.chunk == NO_CHUNK
 }
 
-const PASSED: Verdict = Verdict {
-    kind: 0,
-    chunk: NO_CHUNK,
-    at: 0,
-    p: 0,
-    q: 0,
-    instructions: 0,
-    reached: 0,
-    taken: 0,
-};
+const PASSED: Verdict = Verdict::accepted(0, 0, 0);
 
 /// The bits of the starts in so many words.
 fn starts(code: &[u8], words: usize) -> Vec<u64> {

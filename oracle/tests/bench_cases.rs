@@ -94,16 +94,7 @@ fn accepts(input: &Input, counts: (u64, u64, u64), heights: &[u16], starts: &[us
 
 #[track_caller]
 fn accepted(asked: &Asked, counts: (u64, u64, u64), heights: &[u16], starts: &[usize]) {
-    let verdict = Verdict {
-        kind: 0,
-        chunk: NO_CHUNK,
-        at: 0,
-        p: 0,
-        q: 0,
-        instructions: counts.0,
-        reached: counts.1,
-        taken: counts.2,
-    };
+    let verdict = Verdict::accepted(counts.0, counts.1, counts.2);
     assert_eq!(asked.verdict, verdict);
     assert_eq!(asked.marks, marked(asked, starts), "marks");
     heights_are(asked, heights);
@@ -123,16 +114,7 @@ fn marked(asked: &Asked, starts: &[usize]) -> Vec<u64> {
 type Refusal = (u32, u32, u64, u64, u64);
 
 fn refusal((kind, chunk, at, p, q): Refusal) -> Verdict {
-    Verdict {
-        kind,
-        chunk,
-        at,
-        p,
-        q,
-        instructions: 0,
-        reached: 0,
-        taken: 0,
-    }
+    Verdict::refused(kind, chunk, at, p, q)
 }
 
 /// A refusal after the first store, with the heights of the chunks before.
@@ -175,16 +157,8 @@ fn span(entry: usize, end: usize) -> Chunk {
 }
 
 /// The bench's input: one chunk over all of the code, declared 9, no rights, no pools.
-fn over(code: Vec<u8>) -> Input {
-    Input {
-        chunks: vec![span(0, code.len())],
-        code,
-        ..Input::default()
-    }
-}
-
 fn bench(text: &str) -> Input {
-    over(bytes(text))
+    Input::over(bytes(text))
 }
 
 // ---------------------------------------------------------------------------------------------
@@ -488,7 +462,7 @@ fn first_and_count_are_summed_as_numbers() {
 
 #[test]
 fn marks_and_heights_in_this_order() {
-    let mut input = over(vec![0x05; 64]);
+    let mut input = Input::over(vec![0x05; 64]);
     input.chunks = vec![span(0, 0); 3];
     let mut sizes = plenty(&input);
     (sizes.marks, sizes.heights) = (1, 2);
@@ -498,7 +472,7 @@ fn marks_and_heights_in_this_order() {
     sizes.heights = 3;
     refuses_in(&input, sizes, (13, 0, 0, 0, 0), &[]);
     for (length, words) in [(0, 1), (63, 1), (64, 2), (65_535, 1_024), (65_536, 1_025)] {
-        let input = over(vec![0x05; length]);
+        let input = Input::over(vec![0x05; length]);
         sizes.marks = words as usize - 1;
         refuses_early_in(&input, sizes, (3, words, 1));
         sizes.marks = words as usize;
@@ -545,7 +519,7 @@ fn an_unreached_switch_costs_its_full_room() {
 #[test]
 #[cfg_attr(debug_assertions, ignore = "1.4e9 constants are tested")]
 fn room_for_full_switches_is_exact() {
-    let mut input = over(bytes("31 00 00").repeat(21_845));
+    let mut input = Input::over(bytes("31 00 00").repeat(21_845));
     input.constants = vec![0];
     input.cases = vec![0; 2 * 65_536];
     input.ranges = vec![0; 65_536];
@@ -610,7 +584,7 @@ fn end_inside_other_instructions() {
 
 #[test]
 fn the_largest_height() {
-    let mut input = over([vec![0x01; 65_535], vec![0x07]].concat());
+    let mut input = Input::over([vec![0x01; 65_535], vec![0x07]].concat());
     let starts: Vec<usize> = (0..65_536).collect();
     input.chunks[0].declared = 65_534;
     refuses(&input, (14, 0, 0, 65_535, 65_534), &[]);

@@ -1,5 +1,11 @@
-//! The original against the oracle: wherever document 01 adds no refusal, both must answer
-//! the same. Where the original's text is absent, every test here counts as ignored.
+//! The original against the oracle, and against the product itself: each of the two is held to
+//! what the original answers, and neither is asked for the other's sake. Where the original's
+//! text is absent, every test here counts as ignored.
+
+#[cfg(original)]
+#[path = "../src/library.rs"]
+#[allow(dead_code)] // the call over flat spans is compared elsewhere
+mod library;
 
 /// Names the tests in every build, so that they are counted where they cannot run.
 macro_rules! compared {
@@ -25,109 +31,76 @@ compared! {
     short_spans
     generated_cases
     listings_and_numbers
+    wrong_verifiers_are_caught
 }
 
 #[cfg(original)]
 mod compared {
-    use oracle::generator::{self, Rng, Room, ShortCodes};
-    use oracle::input::{Chunk, Input, Lent, Verdict, NO_CHUNK};
+    use crate::library;
+    use oracle::generator::{self, Rng, ShortCodes};
+    use oracle::input::{Input, NO_CHUNK};
+    use oracle::mocks;
     use oracle::oracle as ours;
-    use oracle::original::{self, comparable, Refusal};
-    use std::collections::BTreeMap;
+    use oracle::original::{self, Answer, Due, Refusal, Subject, Translated};
+    use std::collections::{BTreeMap, BTreeSet};
 
     const ALL_RIGHTS: u32 = (1 << 17) - 1;
-
-    /// What a height holds before the call.
-    const UNTOUCHED: u16 = 0xaaaa;
 
     /// Every byte that is a tag of document 01.
     fn tags() -> impl Iterator<Item = u8> {
         (0x01..=0x47).chain([0x4f])
     }
 
-    /// How often each kind came up.
-    type Tally = BTreeMap<u32, u64>;
+    /// Those that are held to the original.
+    const SUBJECTS: [(&str, &Subject); 2] = [
+        ("oracle", &|input, memory| {
+            ours::verify(input, memory.lend())
+        }),
+        ("product", &|input, memory| {
+            library::verify(input, memory.lend())
+        }),
+    ];
 
-    /// The oracle's answer, and the heights it leaves.
-    fn ask(input: &Input, room: &Room) -> (Verdict, Vec<u16>) {
-        let mut heights = vec![UNTOUCHED; room.heights];
-        let lent = Lent {
-            marks: &mut vec![0; room.marks],
-            heights: &mut heights,
-            records: &mut vec![0; room.records],
-            work: &mut vec![0; room.work],
+    /// How often each kind was due, and how many inputs took more room than is ever lent.
+    #[derive(Default)]
+    struct Tally {
+        kinds: BTreeMap<u32, u64>,
+        left_out: u64,
+    }
+
+    /// Holds both to what is due.
+    fn compare(input: &Input, tally: &mut Tally) {
+        let Some(due) = Due::of(input) else {
+            tally.left_out += 1;
+            return;
         };
-        (ours::verify(input, lent), heights)
-    }
-
-    /// Demands the same answer of both wherever document 01 adds none of its own.
-    fn compare(input: &Input, room: &Room, tally: &mut Tally) {
-        let (verdict, heights) = ask(input, room);
-        *tally.entry(verdict.kind).or_default() += 1;
-        if !comparable(&verdict) {
-            return;
-        }
-        let answer = original::verify(input);
-        match Refusal::of(&verdict) {
-            None => {
-                let stored = heights[..input.chunks.len()].to_vec();
-                assert_eq!(answer, Ok(stored), "{input:?}");
-                let listed = original::disassemble(&input.code).len() as u64;
-                assert_eq!(listed, verdict.instructions, "{input:?}");
-            }
-            Some(refusal) => {
-                assert_eq!(answer, Err(refusal), "{input:?}");
-                compare_before(input, &refusal, &heights);
+        for (name, subject) in SUBJECTS {
+            if let Err(why) = due.hold(input, subject) {
+                panic!("{name}: {why}: {input:?}");
             }
         }
-    }
-
-    /// The chunks before the refused one are accepted, with the heights that were stored.
-    fn compare_before(input: &Input, refusal: &Refusal, heights: &[u16]) {
-        if refusal.chunk == NO_CHUNK || refusal.chunk == 0 {
-            return;
-        }
-        let before = refusal.chunk as usize;
-        let mut shorter = input.clone();
-        shorter.chunks.truncate(before);
-        let answer = original::verify(&shorter);
-        assert_eq!(answer, Ok(heights[..before].to_vec()), "{input:?}");
-    }
-
-    /// Compares with as much room as the input can need.
-    fn compare_at_ease(input: &Input, tally: &mut Tally) {
-        compare(input, &Room::ample(input), tally);
+        *tally.kinds.entry(due.kind()).or_default() += 1;
     }
 
     /// Tells how much was compared, and sees to it that each of these kinds came up.
     fn report(name: &str, tally: &Tally, kinds: &[u32]) {
-        let skipped: u64 = [1, 2, 3, 8].iter().filter_map(|kind| tally.get(kind)).sum();
-        let all: u64 = tally.values().sum();
-        println!(
-            "{name}: {} compared, {skipped} skipped, {tally:?}",
-            all - skipped
-        );
+        let Tally {
+            kinds: due,
+            left_out,
+        } = tally;
+        let all: u64 = due.values().sum();
+        println!("{name}: {all} compared, {left_out} left out, {due:?}");
         for kind in kinds {
-            assert!(tally.contains_key(kind), "{name}: kind {kind} never came");
+            assert!(due.contains_key(kind), "{name}: kind {kind} never came");
         }
     }
 
-    /// Document 01's plain case: one chunk over all of the code, declared 9, nothing else.
     fn over(code: &[u8]) -> Input {
-        spanned(code, 0, code.len() as u32)
+        Input::over(code.to_vec())
     }
 
     fn spanned(code: &[u8], entry: u32, end: u32) -> Input {
-        let chunk = Chunk {
-            entry,
-            end,
-            declared: 9,
-        };
-        Input {
-            code: code.to_vec(),
-            chunks: vec![chunk],
-            ..Input::default()
-        }
+        Input::spanned(code.to_vec(), entry, end)
     }
 
     fn refused(kind: u32, chunk: u32, at: u64, p: u64, q: u64) -> Result<Vec<u16>, Refusal> {
@@ -140,10 +113,15 @@ mod compared {
         })
     }
 
-    /// Holds both to an answer written here.
+    fn original(input: &Input) -> Result<Vec<u16>, Refusal> {
+        let translated = Translated::of(input);
+        translated.expect("its tables are sound").verify()
+    }
+
+    /// Holds the original and both others to an answer written here.
     fn expect(input: &Input, answer: Result<Vec<u16>, Refusal>) {
-        assert_eq!(original::verify(input), answer, "{input:?}");
-        compare_at_ease(input, &mut Tally::new());
+        assert_eq!(original(input), answer, "{input:?}");
+        compare(input, &mut Tally::default());
     }
 
     /// How many changes there are of each name in each file.
@@ -243,10 +221,21 @@ mod compared {
     pub fn a_misaligned_entry_is_accepted() {
         let mut input = spanned(&[0x24, 0x01, 0x07], 1, 3);
         input.constants = vec![0; 1794];
-        assert_eq!(original::verify(&input), Ok(vec![1]));
-        let (verdict, heights) = ask(&input, &Room::exact(&input));
-        assert_eq!((verdict.kind, verdict.chunk, verdict.p), (8, 0, 1));
-        assert_eq!(heights, [UNTOUCHED]);
+        assert_eq!(original(&input), Ok(vec![1]));
+        let refusal = Refusal {
+            kind: 8,
+            chunk: 0,
+            at: 0,
+            p: 1,
+            q: 0,
+        };
+        let due = Due::Answer(Answer {
+            refusal: Some(refusal),
+            heights: vec![],
+            instructions: 1,
+        });
+        assert_eq!(Due::of(&input), Some(due));
+        compare(&input, &mut Tally::default());
     }
 
     /// An instruction whose indices are `a`, then `c` or its count `b`, in the places where
@@ -289,21 +278,21 @@ mod compared {
     }
 
     pub fn effects_of_every_tag() {
-        let mut tally = Tally::new();
+        let mut tally = Tally::default();
         for tag in tags() {
             for case in 0..4 * 9 * 10 {
                 let (n, below, above) = (case % 4, case / 4 % 9, case / 36);
                 let mut input = around(tag, [n as u8, n as u8, 0], below, above);
-                compare_at_ease(&input, &mut tally);
+                compare(&input, &mut tally);
                 input.chunks[0].declared = 4;
-                compare_at_ease(&input, &mut tally);
+                compare(&input, &mut tally);
             }
         }
         report("effects", &tally, &[0, 6, 12, 14]);
     }
 
     pub fn rights_of_every_tag() {
-        let mut tally = Tally::new();
+        let mut tally = Tally::default();
         for tag in tags() {
             for case in 0..4 * 18 * 3 * 2 {
                 let (n, bit) = (case % 4, case / 4 % 18);
@@ -311,9 +300,9 @@ mod compared {
                 let mut input = around(tag, [n as u8, n as u8, 0], below, 0);
                 input.rights &= !(1 << bit);
                 input.names.fill(flag as u8);
-                compare_at_ease(&input, &mut tally);
+                compare(&input, &mut tally);
                 input.functions = 1;
-                compare_at_ease(&input, &mut tally);
+                compare(&input, &mut tally);
             }
         }
         report("rights", &tally, &[0, 4, 12]);
@@ -321,7 +310,7 @@ mod compared {
 
     /// Every index against pools of every small size, the names' size apart from the others'.
     pub fn indices_of_every_tag() {
-        let mut tally = Tally::new();
+        let mut tally = Tally::default();
         for tag in tags() {
             for case in 0u32..64 * 5 * 5 {
                 let digit = |place: u32| (case >> (2 * place) & 3) as u8;
@@ -331,10 +320,10 @@ mod compared {
                 input.constants.truncate(others as usize);
                 input.tokens = u64::from(others);
                 input.op_assignments = u64::from(others);
-                compare_at_ease(&input, &mut tally);
+                compare(&input, &mut tally);
                 input.chains.truncate(7 * others as usize);
                 input.switches.truncate(5 * others as usize);
-                compare_at_ease(&input, &mut tally);
+                compare(&input, &mut tally);
             }
         }
         report("indices", &tally, &[0, 6]);
@@ -347,9 +336,9 @@ mod compared {
             rights: ALL_RIGHTS,
             ..Input::default()
         };
-        let mut tally = Tally::new();
+        let mut tally = Tally::default();
         for case in ShortCodes::of_pieces(&bytes, 6, pools) {
-            compare(&case.input, &case.room, &mut tally);
+            compare(&case.input, &mut tally);
         }
         report("short codes", &tally, &[0, 5, 12, 13, 15, 16]);
     }
@@ -364,13 +353,13 @@ mod compared {
             }
         }
         let pieces: Vec<&[u8]> = pieces.iter().map(Vec::as_slice).collect();
-        let mut tally = Tally::new();
+        let mut tally = Tally::default();
         for case in ShortCodes::of_pieces(&pieces, 3, Input::default()) {
             let length = case.input.code.len() as u32;
             for entry in 0..=length {
                 for end in entry.saturating_sub(1)..=length + 1 {
                     let input = spanned(&case.input.code, entry, end);
-                    compare(&input, &case.room, &mut tally);
+                    compare(&input, &mut tally);
                 }
             }
         }
@@ -378,12 +367,12 @@ mod compared {
     }
 
     pub fn generated_cases() {
-        let mut tally = Tally::new();
+        let mut tally = Tally::default();
         for seed in 0..500_000 {
             let case = generator::case(seed);
-            compare(&case.input, &case.room, &mut tally);
+            compare(&case.input, &mut tally);
         }
-        let all = [0, 4, 5, 6, 7, 9, 10, 11, 12, 13, 14, 15, 16];
+        let all = [0, 1, 2, 4, 5, 6, 7, 8, 9, 10, 11, 12, 13, 14, 15, 16];
         report("generated cases", &tally, &all);
     }
 
@@ -423,5 +412,95 @@ mod compared {
                 assert_eq!(original::width(cut, 0), ours::width(cut, 0), "{cut:?}");
             }
         }
+    }
+    /// The wrong verifiers that pass, by what is wrong with them: the original does not tell it.
+    const UNTOLD: [(&str, &[&str]); 5] = [
+        (
+            "marks, records and work, which it does not have",
+            &[
+                "a last word without a bit stays",
+                "all stays when no chunk is come to",
+                "marks are not cleared after a refusal",
+                "marks cleared before kind 1",
+                "marks cleared before kind 2",
+                "marks past the needed words stay",
+                "only starts in chunks are marked",
+                "records cleared before kind 1",
+                "records cleared before kind 2",
+                "records stay after a refusal",
+                "records stay after acceptance",
+                "starts stay after a refusal",
+                "the code's end is marked",
+                "the last record stays",
+                "the last work item stays",
+                "work cleared before kind 1",
+                "work cleared before kind 2",
+                "work stays after a refusal",
+                "work stays after acceptance",
+                "writes before the marks",
+                "writes before the records",
+                "writes before the work",
+                "writes behind the marks",
+                "writes behind the records",
+                "writes behind the work",
+            ],
+        ),
+        (
+            "too little room, which it does not know",
+            &[
+                "all stays when a chunk finds no room",
+                "default_not_in_t",
+                "heights cleared before kind 3",
+                "marks cleared before kind 3",
+                "records cleared before kind 3",
+                "room counted in bytes",
+                "room in 32 bits",
+                "work cleared before kind 3",
+            ],
+        ),
+        (
+            "counts that it does not answer",
+            &[
+                "invents counts",
+                "reached_counts_dropped",
+                "refuses with the instructions counted",
+                "taken counts edges only",
+                "taken counts no item that is dropped",
+            ],
+        ),
+        (
+            "numbers of kinds 0, 1 and 2, which are document 01's",
+            &[
+                "accepts with chunk 0",
+                "entries counted from 1",
+                "limits numbered as the arguments are",
+            ],
+        ),
+        (
+            "changes of what is read, which its types rule out",
+            &["changes the code", "lowers the declared heights"],
+        ),
+    ];
+
+    /// The names of the wrong verifiers that pass over generated cases.
+    fn passing() -> BTreeSet<String> {
+        let mut left = mocks::all();
+        for seed in 0..10_000 {
+            let input = generator::case(seed).input;
+            let Some(due) = Due::of(&input) else { continue };
+            left.retain(|mock| {
+                let subject: &Subject = &|input, memory| (mock.ask)(&mut input.clone(), memory);
+                due.hold(&input, subject).is_ok()
+            });
+        }
+        left.into_iter().map(|mock| mock.name).collect()
+    }
+
+    pub fn wrong_verifiers_are_caught() {
+        let untold = UNTOLD.iter().flat_map(|(_, names)| *names);
+        let untold: BTreeSet<String> = untold.map(|name| name.to_string()).collect();
+        let caught = mocks::all().len() - untold.len();
+        assert_eq!(passing(), untold);
+        println!("{caught} wrong verifiers caught, {} untold", untold.len());
     }
 }

@@ -14,7 +14,7 @@ mod advised;
 
 use oracle::compare::Memory;
 use oracle::generator::{self, Room};
-use oracle::input::{Chunk, Input, Verdict, Verifier};
+use oracle::input::{Input, Verdict, Verifier};
 use oracle::oracle as rules;
 use oracle::tables::tag;
 
@@ -70,13 +70,7 @@ fn over(code: Vec<u8>) -> Input {
         switches: vec![0, 1, 0, 2, 0],
         cases: vec![0, 0],
         ranges: vec![0, 0],
-        chunks: vec![Chunk {
-            entry: 0,
-            end: code.len() as u32,
-            declared: 9,
-        }],
-        code,
-        ..Input::default()
+        ..Input::over(code)
     }
 }
 

@@ -102,15 +102,6 @@ fn both_pass(family: Family) -> Tally {
     tally
 }
 
-fn at_least(tally: &Tally, what: &str, counts: &[u64], least: u64) {
-    for (number, &count) in counts.iter().enumerate() {
-        assert!(
-            count >= least,
-            "{what}, element {number}: {count} < {least}\n{tally}"
-        );
-    }
-}
-
 // ---------------------------------------------------------------------------------------------
 // The families
 // ---------------------------------------------------------------------------------------------
@@ -278,19 +269,7 @@ fn switch_over(targets: &[u32], cases: usize) -> Input {
         switches: vec![0, cases as u32, 0, of_ranges.len() as u32, default],
         cases: of_cases.iter().flat_map(|&target| [target, 0]).collect(),
         ranges: of_ranges.to_vec(),
-        ..over(code)
-    }
-}
-
-fn over(code: Vec<u8>) -> Input {
-    Input {
-        chunks: vec![Chunk {
-            entry: 0,
-            end: code.len() as u32,
-            declared: 9,
-        }],
-        code,
-        ..Input::default()
+        ..Input::over(code)
     }
 }
 
@@ -307,7 +286,7 @@ fn branches(subject: &Open) -> Found {
                 code.extend(target.to_le_bytes());
             }
             code.extend([tag::UNIT, tag::RETURN]);
-            let input = over(code);
+            let input = Input::over(code);
             let name = format!("{count} branches {order}");
             run.ask(&name, &input, Room::exact(&input))?;
             run.ask(&name, &input, Room::ample(&input))?;
@@ -449,26 +428,21 @@ fn generated_cases_of_every_kind() {
     let cases = asked_for();
     let tally = passed("product", generated(&product, 0..cases));
     println!("{tally}");
-    at_least(&tally, "kind from 0", &tally.kinds, cases / 1_000);
-    at_least(&tally, "buffer of kind 3", &tally.buffers, cases / 300);
-    at_least(&tally, "table of kind 2", &tally.tables, cases / 1_000);
-    at_least(&tally, "sort of kind 4", &tally.rights, cases / 300);
-    at_least(&tally, "pool of kind 6", &tally.pools, cases / 600);
-    at_least(&tally, "limit of kind 1", &tally.limits, cases / 50_000);
+    tally.at_least("kind from 0", &tally.kinds, cases / 1_000);
+    tally.at_least("buffer of kind 3", &tally.buffers, cases / 300);
+    tally.at_least("table of kind 2", &tally.tables, cases / 1_000);
+    tally.at_least("sort of kind 4", &tally.rights, cases / 300);
+    tally.at_least("pool of kind 6", &tally.pools, cases / 600);
+    tally.at_least("limit of kind 1", &tally.limits, cases / 50_000);
     let equal = [tally.hidden_conflicts];
-    at_least(
-        &tally,
-        "conflict with equal operands",
-        &equal,
-        cases / 1_000,
-    );
+    tally.at_least("conflict with equal operands", &equal, cases / 1_000);
 }
 
 #[test]
 fn generated_cases_over_flat_spans() {
     let seeds = (0..asked_for()).step_by(FLAT);
     let tally = passed("flat", generated(&flat, seeds));
-    at_least(&tally, "kind from 0", &tally.kinds, tally.cases / 1_000);
+    tally.at_least("kind from 0", &tally.kinds, tally.cases / 1_000);
 }
 
 #[test]
@@ -479,31 +453,31 @@ fn bench_cases_in_all_rooms() {
 #[test]
 fn rooms_full_short_and_roomy() {
     let tally = both_pass(rooms);
-    at_least(&tally, "buffer", &tally.buffers, 500);
-    at_least(&tally, "kind 0", &tally.kinds[..1], 3_000);
+    tally.at_least("buffer", &tally.buffers, 500);
+    tally.at_least("kind 0", &tally.kinds[..1], 3_000);
 }
 
 #[test]
 fn every_span_of_short_codes() {
     let tally = both_pass(spans);
     for kind in [0, 7, 8, 12, 13] {
-        at_least(&tally, "kind", &tally.kinds[kind..=kind], 50);
+        tally.at_least("kind", &tally.kinds[kind..=kind], 50);
     }
 }
 
 #[test]
 fn chunks_repeated_overlapping_and_in_any_order() {
     let tally = both_pass(lists);
-    at_least(&tally, "kind 0", &tally.kinds[..1], 5_000);
+    tally.at_least("kind 0", &tally.kinds[..1], 5_000);
     let later = [tally.later_chunks];
-    at_least(&tally, "refusal after a good chunk", &later, 1_000);
+    tally.at_least("refusal after a good chunk", &later, 1_000);
 }
 
 #[test]
 fn switches_from_no_case_to_60_000() {
     let tally = both_pass(switches);
-    at_least(&tally, "kind 0", &tally.kinds[..1], 150);
-    at_least(&tally, "kinds 9 and 10", &tally.kinds[9..=10], 20);
+    tally.at_least("kind 0", &tally.kinds[..1], 150);
+    tally.at_least("kinds 9 and 10", &tally.kinds[9..=10], 20);
 }
 
 #[test]
@@ -515,13 +489,13 @@ fn branches_as_many_as_fit() {
 #[test]
 fn limits_and_large_numbers() {
     let tally = both_pass(bounds);
-    at_least(&tally, "limit", &tally.limits, 1);
+    tally.at_least("limit", &tally.limits, 1);
 }
 
 #[test]
 fn large_programs_good_and_changed() {
     let tally = both_pass(large);
-    at_least(&tally, "kind 0", &tally.kinds[..1], 12);
+    tally.at_least("kind 0", &tally.kinds[..1], 12);
     let refused = tally.kinds[1..].iter().filter(|&&count| count > 0).count();
     assert!(refused >= 6, "few sorts of refusals\n{tally}");
 }

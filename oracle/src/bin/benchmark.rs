@@ -209,7 +209,7 @@ impl<'a> Prepared<'a> {
             heights: memory.heights.lent().to_vec(),
             memory,
             #[cfg(original)]
-            translated: oracle::original::Translated::of(input),
+            translated: oracle::original::Translated::of(input).expect("its tables are sound"),
         }
     }
 }

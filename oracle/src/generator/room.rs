@@ -54,6 +54,12 @@ impl Room {
         }
     }
 
+    /// Whether each chunk of the input finds the records and the work that it takes.
+    pub fn suffices(&self, input: &Input) -> bool {
+        let mut needs = input.chunks.iter().map(|chunk| chunk_needs(input, chunk));
+        needs.all(|(records, work)| records <= self.records && work <= self.work)
+    }
+
     /// Enough: full to the last element in half of the draws, else larger by a little.
     pub fn enough(rng: &mut Rng, input: &Input) -> Room {
         let mut room = Room::exact(input);

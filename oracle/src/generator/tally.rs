@@ -29,6 +29,17 @@ pub struct Tally {
 }
 
 impl Tally {
+    /// Sees to it that each of these counts is large enough.
+    #[track_caller]
+    pub fn at_least(&self, what: &str, counts: &[u64], least: u64) {
+        for (number, &count) in counts.iter().enumerate() {
+            assert!(
+                count >= least,
+                "{what}, element {number}: {count} < {least}\n{self}"
+            );
+        }
+    }
+
     pub fn add(&mut self, case: &Case, verdict: &Verdict) {
         self.cases += 1;
         self.kinds[verdict.kind as usize] += 1;
