@@ -17,7 +17,7 @@ pub record Input : Type 0 where
   -- how many chunks
   pub chunks : ℕ
 
--- the eleven counts that have limits, "over whole entries"
+-- the counts that have limits, "over whole entries"
 abbrev pub sizesOf : Input → Sizes
 sizesOf I = record {
   code = length (I .script .code);

@@ -15,7 +15,7 @@ use Rattle.judging.specs.declared.Judgement.the-variants.{Passed, Refuse
 use Rattle.judging.specs.Spans.{chunkAt}
 use Rattle.judging.specs.Spans.{spansOf}
 use Rattle.judging.specs.Judging.{judgeAll, Judges, andThen}
-use Rattle.verify.specs.Stages.{mostReached, mostTaken}
+use Rattle.judging.specs.Bounds.{mostReached, mostTaken}
 
 -- ---- spans
 

@@ -22,9 +22,11 @@ maxCode = 65536
 abbrev pub maxEntries : ℕ
 maxEntries = 65536
 
--- the most chains, and the most switches
-abbrev pub maxRecords : ℕ
-maxRecords = 4096
+abbrev pub maxChains : ℕ
+maxChains = 4096
+
+abbrev pub maxSwitches : ℕ
+maxSwitches = 4096
 
 abbrev pub maxChunks : ℕ
 maxChunks = 1024
@@ -50,8 +52,8 @@ limits s =
     (6, over maxEntries (s .steps)) ∷
     (7, over maxEntries (s .cases)) ∷
     (8, over maxEntries (s .ranges)) ∷
-    (9, over maxRecords (s .chains)) ∷
-    (10, over maxRecords (s .switches)) ∷
+    (9, over maxChains (s .chains)) ∷
+    (10, over maxSwitches (s .switches)) ∷
     (11, over maxChunks (s .chunks)) ∷ []
 
 -- what one tells, and what several do, in their order

@@ -29,8 +29,9 @@ pub const MAX_CODE: usize = 65536;
 // The most constants, names, tokens, op-assignments, steps, cases, ranges, of each.
 const MAX_ENTRIES: usize = 65536;
 
-// The most chains, and the most switches.
-const MAX_RECORDS: usize = 4096;
+const MAX_CHAINS: usize = 4096;
+
+const MAX_SWITCHES: usize = 4096;
 
 const MAX_CHUNKS: usize = 1024;
 
@@ -50,8 +51,8 @@ pub fn check_limits(sizes: Sizes) -> Limits
         Limit(6, sizes.steps > MAX_ENTRIES),
         Limit(7, sizes.cases > MAX_ENTRIES),
         Limit(8, sizes.ranges > MAX_ENTRIES),
-        Limit(9, sizes.chains > MAX_RECORDS),
-        Limit(10, sizes.switches > MAX_RECORDS),
+        Limit(9, sizes.chains > MAX_CHAINS),
+        Limit(10, sizes.switches > MAX_SWITCHES),
         Limit(11, sizes.chunks > MAX_CHUNKS),
     ];
     let mut at = 0;

@@ -34,7 +34,8 @@ use Rattle.verify.specs.declared.stages.State.the-variants.{Going, Ended
 use Rattle.judging.specs.Spans.{chunkAt}
 use Rattle.verify.specs.Call.{Memory, BothClear, marksOn, Calls}
 use Rattle.judging.specs.Judging.{JudgedAll, judgeAll, Judges}
-use Rattle.verify.specs.Stages.{mostReached, mostTaken, opened, wordsOn, Begins, advanced, marksThen, Advances, Fits, Few, Asks, Takes, goesOn, finished}
+use Rattle.judging.specs.Bounds.{mostReached, mostTaken}
+use Rattle.verify.specs.Stages.{opened, wordsOn, Begins, advanced, marksThen, Advances, Fits, Few, Asks, Takes, goesOn, finished}
 use Rattle.judging.proofs.Chain.{judge-passes, judge-fails, judge-none, Judging, judging-first, judging-done, judging-fails, judging-passes}
 use Rattle.verify.proofs.Small.{small}
 use Rattle.verify.proofs.Whole.{bare, ready, untouched, zeroed-all, marked-so, starts-small, judged-call, zeros-still, concludes-passed, concludes-refused}

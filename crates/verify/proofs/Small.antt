@@ -14,7 +14,7 @@ use Rattle.demand.proofs.Demand.{Told, accepts, refuses, walk-told, judged-walk
 use Rattle.machine.proofs.Ends.{accepted-bounded}
 use Rattle.demand.proofs.Keeps.{keeps-laws}
 use Rattle.answer.proofs.Apart.{zero≢one}
-use Rattle.verify.specs.Stages.{mostReached, mostTaken}
+use Rattle.judging.specs.Bounds.{mostReached, mostTaken}
 use Rattle.verify.proofs.Chunks.{passes-opens}
 use Rattle.judging.proofs.Walking.{few-edges}
 

@@ -25,6 +25,7 @@ use Rattle.verify.specs.declared.stages.State.{State}
 use Rattle.verify.specs.declared.stages.State.the-variants.{Going, Ended}
 use Rattle.verify.specs.Call.{marksOn}
 use Rattle.judging.specs.Judging.{JudgedAll, judgeAll}
+use Rattle.judging.specs.Bounds.{mostReached, mostTaken}
 
 -- ---- before the chunks
 
@@ -66,13 +67,6 @@ unfoldable pub Fits : State → Judgement → Type 0
 Fits (Going instructions reached taken) (Passed more further) = (reached + more < 2 ^ 64) × (taken + further < 2 ^ 64)
 Fits (Going instructions reached taken) (Refused chunk a) = Unit {0}
 Fits (Ended verdict) judgement = Unit {0}
-
--- one chunk counts no more than these: it has as many instructions as bytes at most, and 1 + E is below 2^40
-abbrev pub mostReached : ℕ
-mostReached = 2 ^ 21
-
-abbrev pub mostTaken : ℕ
-mostTaken = 2 ^ 40
 
 -- the counts are those of so many chunks at most
 unfoldable pub Few : State → (chunks : ℕ) → Type 0
