@@ -39,7 +39,8 @@ pub record Opens (S : Script) (span : Span) (records work : ℕ) : Type 0 where
   pub work-room : 4 * (1 + E S span) ≤ work
 
 module _ (S : Script) (span : Span) (records work : ℕ) where
-  -- it does not open: one of these tests fails, with this answer, and those before it pass (`shut-really` there)
+  -- it does not open: one of these tests fails, with this answer, and those before it pass (`shut-really` and
+  -- `shut-not-open` there)
   pub data Shut : Answer → Type 0 where
     -- 7: it ends before its entry, or past the code
     out-of-range : (span .end < span .entry) ⊎ (length (S .code) < span .end)
