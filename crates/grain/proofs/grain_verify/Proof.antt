@@ -463,8 +463,8 @@ module _ {M : Type 1} (𝓤 : URA M) (H : Heap 𝓤) (A : Atoms 𝓤) (W : Given
       nothing ! $ nothing ! $
       keep ! (7 ∷ 6 ∷ 8 ∷ 9 ∷ 5 ∷ 4 ∷ 10 ∷ 11 ∷ 12 ∷ 13 ∷ 14 ∷ 15 ∷ 3 ∷ 2 ∷ 27 ∷ 28 ∷ 29 ∷ 0 ∷ 16 ∷ 17 ∷ 18 ∷ 19 ∷ 20 ∷
       21 ∷ 22 ∷ 23 ∷ 24 ∷ 25 ∷ 26 ∷ 1 ∷ []) $
-      group ! 18 $ move ! (1 ∷ 2 ∷ 3 ∷ 4 ∷ 5 ∷ 6 ∷ 7 ∷ 8 ∷ 9 ∷ 10 ∷ 11 ∷ 12 ∷
-      []) $ group ! 12 $ join ! $ frame ! $ done !
+      group ! 18 $
+      move ! (1 ∷ 2 ∷ 3 ∷ 4 ∷ 5 ∷ 6 ∷ 7 ∷ 8 ∷ 9 ∷ 10 ∷ 11 ∷ 12 ∷ []) $ group ! 12 $ join ! $ frame ! $ done !
 
   -- of so many chunks
   abbrev Begun : ℕ → State → Lists 3 → Type 0
