@@ -13,6 +13,7 @@ use lib.ListN.{length}
 use Rattle.before.specs.Before.{Test, beforeStores, afterStores}
 use Rattle.before.specs.Input.{Input}
 use Rattle.answer.specs.Answer.{noChunk, numbered}
+use Rattle.pools.proofs.LimitLaws.{chunks-kept}
 use Rattle.demand.specs.Chunk.{passes, fails}
 use Rattle.demand.specs.Chunk as chunk
 use Rattle.answer.specs.declared.Answer.{Answer}
@@ -167,7 +168,7 @@ module _ (I : Input) (spans : List Span) (before : Memory) where
               q,
               ap (λ (v : Verdict). v .chunk) (refuses I spans before b i l p e),
               fails-refuses I (known I spans before b) (chunkAt spans i) records work e i .1,
-              known I spans before b .kept .chunks,
+              chunks-kept (known I spans before b .kept),
             )
 
     -- Which of the two, its kind tells. By 3, 7 and 8 it does not open, and this test of its own is the first to fail.
