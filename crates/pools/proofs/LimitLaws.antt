@@ -1,5 +1,5 @@
 -- What the limits tell: none is exceeded exactly where each count is within its limit, and otherwise the first that is
--- exceeded is named. All of it holds of any list of limits, so that it does not change with them.
+-- exceeded is named. All but the last part holds of any list of limits, so that it does not change with them.
 use mathlib.Core.Bool.{Bool, true, false}
 use mathlib.Core.List.{List, [], _∷_, _++_, map, List·Memᴰ, List·Memᴰ·head, List·Memᴰ·tail}
 use mathlib.Core.Path.{_≡_, refl, sym, ap, _∙_}
