@@ -7,14 +7,14 @@ use mathlib.Core.Logic.{_≢_}
 use mathlib.Core.Path.{_≡_}
 use Prim.Native.Nat.{ℕ, _<_}
 use lib.ListN.{length, getD}
-use Rattle.before.specs.Input.{Input}
-use Rattle.bench.specs.Bench.{Row, input, lent}
-use Rattle.listing.specs.Listing.{starts}
 use Rattle.answer.specs.declared.verdict.Verdict.{Verdict}
-use Rattle.rules.specs.Script.{Script}
+use Rattle.before.specs.Input.{Input}
 use Rattle.demand.specs.Span.{Span}
+use Rattle.listing.specs.Listing.{starts}
+use Rattle.rules.specs.Script.{Script}
 use Rattle.verify.specs.Accounts.{sumBelow, Measured}
 use Rattle.verify.specs.Call.{Memory, Result, Calls}
+use Rattle.bench.specs.Bench.{Row, input, lent}
 
 -- a call on what a row asks may come to this verdict and this memory
 abbrev pub Comes : Row → Verdict → Memory → Type 0

@@ -18,7 +18,10 @@ use Rattle.answer.specs.declared.Answer.{Answer}
 use Rattle.answer.specs.declared.Answer.the-variants.{StackExceedsDeclared}
 use Rattle.answer.specs.declared.Depths.{Depths}
 use Rattle.demand.specs.Chunk.{spanTest, roomTest, openTest, Judged, passes, fails, heightTest, measured}
-use Rattle.demand.specs.Chunk.{walked, judgeChunk, Accepted, redeclared, BeforeWalk}
+use Rattle.demand.specs.Chunk.{walked, judgeChunk}
+use Rattle.demand.specs.BeforeWalk.{Accepted}
+use Rattle.demand.specs.BeforeWalk.{redeclared}
+use Rattle.demand.specs.BeforeWalk.{BeforeWalk}
 use Rattle.answer.specs.Depths.{Item}
 use Rattle.demand.specs.Span.{T, E, chunkStarts}
 use Rattle.rules.specs.Edges.{degree}

@@ -17,7 +17,7 @@ use Rattle.listing.proofs.Starts.{listed-start, start-listed, start-wide, start
 use Rattle.listing.proofs.Before.{start-before}
 use Rattle.answer.specs.declared.Answer.{Answer}
 use Rattle.answer.specs.declared.Answer.the-variants.{JumpOutOfRange, JumpIntoAnInstruction}
-use Rattle.demand.specs.Chunk.{BeforeWalk}
+use Rattle.demand.specs.BeforeWalk.{BeforeWalk}
 use Rattle.rules.specs.Edges.{next}
 use Rattle.demand.specs.Span.{chunkStarts}
 use Rattle.machine.specs.Lists.{_∈_}

@@ -15,7 +15,7 @@ use Rattle.code.proofs.Among.{member-among}
 use Rattle.listing.proofs.Starts.{start-wide}
 use Rattle.answer.specs.declared.Answer.{Answer}
 use Rattle.answer.specs.declared.Depths.{Depths}
-use Rattle.demand.specs.Chunk.{BeforeWalk}
+use Rattle.demand.specs.BeforeWalk.{BeforeWalk}
 use Rattle.answer.specs.Depths.{Item}
 use Rattle.rules.specs.Edges.{falls, targets, afterOf, jumpedOf, after, next, degree}
 use Rattle.demand.specs.Span.{chunkStarts}

@@ -6,3 +6,4 @@ pub mod Measures
 pub mod Refusals
 pub mod Rule
 pub mod Chunk
+pub mod BeforeWalk

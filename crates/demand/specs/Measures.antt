@@ -6,10 +6,10 @@ use mathlib.Core.Logic.{_↔_}
 use mathlib.Core.Path.{_≡_}
 use Prim.Native.Nat.{ℕ, _+_, _≤_}
 use lib.ListN.{length}
-use Rattle.rules.specs.Edges.{degree}
 use Rattle.machine.specs.Lists.{_∈_, NoRepeats, sumOf}
-use Rattle.demand.specs.Paths.{DepthOnPath, OnPath}
+use Rattle.rules.specs.Edges.{degree}
 use Rattle.rules.specs.Script.{Script}
+use Rattle.demand.specs.Paths.{DepthOnPath, OnPath}
 use Rattle.demand.specs.Span.{Span}
 
 pub record Measures (S : Script) (span : Span) (height reached taken : ℕ) : Type 0 where

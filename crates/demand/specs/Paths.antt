@@ -3,11 +3,10 @@
 use Prim.Native.Nat.{ℕ}
 use Rattle.answer.specs.declared.Depths.{Depths}
 use Rattle.answer.specs.Depths.{Item, zeros}
-use Rattle.rules.specs.Edges.{after, edges}
-use Rattle.rules.specs.Effects.{needs}
 use Rattle.machine.specs.Lists.{_∈_}
-use Rattle.rules.specs.Script.{Script}
+use Rattle.rules.specs.Edges.{after, edges}
 use Rattle.rules.specs.Needs.{Able}
+use Rattle.rules.specs.Script.{Script}
 use Rattle.demand.specs.Span.{Span, InChunk}
 
 module _ (S : Script) (span : Span) where

@@ -3,20 +3,22 @@
 use mathlib.Core.Logic.{_⊎_}
 use mathlib.Core.Path.{_≡_}
 use Prim.Native.Nat.{ℕ, _≤_, _<_}
-use Rattle.code.specs.Width.{widthOf}
-use Rattle.listing.specs.Listing.{Start}
 use Rattle.answer.specs.declared.Answer.{Answer}
-use Rattle.answer.specs.declared.Answer.the-variants.{MissingCaps, JumpOutOfRange, JumpIntoAnInstruction, DepthConflict, Underflow, FallsOffTheEnd, StackExceedsDeclared, IteratorUnderflow, HandlerUnderflow}
+use Rattle.answer.specs.declared.Answer.the-variants.{MissingCaps, JumpOutOfRange, JumpIntoAnInstruction, DepthConflict}
+use Rattle.answer.specs.declared.Answer.the-variants.{Underflow, FallsOffTheEnd, StackExceedsDeclared}
+use Rattle.answer.specs.declared.Answer.the-variants.{IteratorUnderflow, HandlerUnderflow}
 use Rattle.answer.specs.declared.Depths.{Depths}
 use Rattle.answer.specs.Depths.{Item}
+use Rattle.code.specs.Width.{widthOf}
+use Rattle.listing.specs.Listing.{Start}
+use Rattle.machine.specs.Lists.{_∈_}
 use Rattle.rules.specs.Edges.{targets}
 use Rattle.rules.specs.Effects.{needs}
-use Rattle.machine.specs.Lists.{_∈_}
-use Rattle.demand.specs.Measures.{Measures}
 use Rattle.rules.specs.Needs.{iteratorsNeeded, handlersNeeded, Able}
-use Rattle.demand.specs.Paths.{Path}
 use Rattle.rules.specs.Rights.{required, lacking}
 use Rattle.rules.specs.Script.{Script, tagOf}
+use Rattle.demand.specs.Measures.{Measures}
+use Rattle.demand.specs.Paths.{Path}
 use Rattle.demand.specs.Span.{Span, InChunk}
 
 module _ (S : Script) (span : Span) where

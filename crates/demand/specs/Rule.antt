@@ -7,20 +7,20 @@ use mathlib.Core.List.{List, [], _∷_, _++_, map}
 use mathlib.Core.Option.{Option, none, some}
 use Prim.Native.Nat.{ℕ}
 use lib.Dec.{ltb, leb}
-use Rattle.code.specs.Layout.{among}
-use Rattle.listing.specs.Listing.{starts}
 use Rattle.answer.specs.Answer.{unless}
 use Rattle.answer.specs.declared.Answer.{Answer}
-use Rattle.answer.specs.declared.Answer.the-variants.{MissingCaps, JumpOutOfRange, JumpIntoAnInstruction, DepthConflict, Underflow, FallsOffTheEnd, IteratorUnderflow, HandlerUnderflow}
+use Rattle.answer.specs.declared.Answer.the-variants.{MissingCaps, JumpOutOfRange, JumpIntoAnInstruction, DepthConflict}
+use Rattle.answer.specs.declared.Answer.the-variants.{Underflow, FallsOffTheEnd, IteratorUnderflow, HandlerUnderflow}
 use Rattle.answer.specs.declared.Depths.{Depths}
-use Rattle.rules.specs.Edges.{falls, plain, targets, after, jumped, next}
-use Rattle.demand.specs.Span.{chunkStarts}
-use Rattle.rules.specs.Effects.{needs}
+use Rattle.code.specs.Layout.{among}
+use Rattle.listing.specs.Listing.{starts}
 use Rattle.machine.specs.Machine.{Ruling, denies, gives, Machine}
+use Rattle.rules.specs.Edges.{falls, plain, targets, after, jumped, next}
+use Rattle.rules.specs.Effects.{needs}
 use Rattle.rules.specs.Needs.{iteratorsNeeded, handlersNeeded}
 use Rattle.rules.specs.Rights.{required, lacking}
 use Rattle.rules.specs.Script.{Script, tagOf}
-use Rattle.demand.specs.Span.{Span}
+use Rattle.demand.specs.Span.{chunkStarts, Span}
 
 -- all targets that these instructions name, in order
 unfoldable pub allTargets : Script → List ℕ → List ℕ

@@ -7,9 +7,9 @@ use mathlib.Core.Path.{_≡_}
 use Prim.Native.Nat.{ℕ, _≤_}
 use Rattle.answer.specs.declared.Depths.{Depths}
 use Rattle.answer.specs.Depths.{Item, zeros}
+use Rattle.machine.specs.Lists.{_∈_}
 use Rattle.rules.specs.Edges.{after, edges}
 use Rattle.rules.specs.Needs.{Able}
-use Rattle.machine.specs.Lists.{_∈_}
 use Rattle.rules.specs.Script.{Script}
 use Rattle.demand.specs.Span.{Span, InChunk}
 

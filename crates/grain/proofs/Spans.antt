@@ -4,7 +4,7 @@ use mathlib.Core.Path.{_≡_, refl, ap}
 use Prim.Native.Nat.{ℕ, zero, suc, _<_}
 use native.Mathlib.Nat.{le-of-suc-le-suc, not-suc-le-zero}
 use lib.ListN.{length, getD}
-use Rattle.judging.specs.Spans.{chunkAt}
+use Rattle.demand.specs.Span.{chunkAt}
 use Rattle.grain.specs.declared.Chunk.{Chunk}
 use Rattle.grain.specs.Chunks.{spanOf, spansFrom}
 

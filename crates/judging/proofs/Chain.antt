@@ -12,10 +12,12 @@ use Rattle.demand.specs.Chunk as chunk
 use Rattle.rules.specs.Script.{Script}
 use Rattle.demand.specs.Span.{Span}
 use Rattle.judging.specs.declared.Judgement.the-variants.{Passed, Refused}
-use Rattle.judging.specs.Spans.{chunkAt}
+use Rattle.demand.specs.Span.{chunkAt}
 use Rattle.judging.specs.Spans.{spansOf}
-use Rattle.judging.specs.Judging.{judgeAll, Judges, andThen}
-use Rattle.verify.specs.Stages.{mostReached, mostTaken}
+use Rattle.judging.specs.Judging.{JudgedAll, judgeAll}
+use Rattle.judging.specs.Judges.{Judges}
+use Rattle.judging.specs.Judges.{mostTaken}
+use Rattle.judging.specs.Judges.{mostReached}
 
 -- ---- spans
 
@@ -53,6 +55,11 @@ span-within entries ends declared k h =
 -- what is left from a chunk on
 pub chunk-next : (spans : List Span) (k : ℕ) → k < length spans → drop k spans ≡ chunkAt spans k ∷ drop (suc k) spans
 chunk-next spans k h = drop-cons spans k _ h
+
+-- one judgement, and after it, where all of its chunks pass, another
+unfoldable andThen : JudgedAll → ((reached taken : ℕ) → (heights : List ℕ) → JudgedAll) → JudgedAll
+andThen judged more =
+    elim (judged .answer) [ Passed reached taken ↦ more reached taken (judged .heights) | Refused chunk a ↦ judged ]
 
 module _ (S : Script) (records work : ℕ) where
   -- ---- one chunk

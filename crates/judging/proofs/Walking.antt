@@ -29,7 +29,9 @@ use Rattle.answer.specs.declared.Outcome.the-variants.{Passed, Refused as Faile
 use Rattle.answer.specs.Answer.{told, unless}
 use Rattle.demand.proofs.Demand.{Height, above, within, within-or-above}
 use Rattle.answer.proofs.Apart.{zero≢one}
-use Rattle.demand.specs.Chunk.{BeforeWalk, judgeChunk, passes, fails, heightTest, redeclared}
+use Rattle.demand.specs.Chunk.{judgeChunk, passes, fails, heightTest}
+use Rattle.demand.specs.BeforeWalk.{redeclared}
+use Rattle.demand.specs.BeforeWalk.{BeforeWalk}
 use Rattle.demand.specs.Span.{T, E, chunkStarts}
 use Rattle.rules.specs.Edges.{falls, degree}
 use Rattle.machine.specs.Lists.{_∈_, here, there, sumOf}
@@ -42,7 +44,17 @@ use Rattle.walk.specs.declared.Counts.{Counts}
 use Rattle.walk.specs.declared.Hand.{Hand}
 use Rattle.walk.specs.declared.Turn.{Turn}
 use Rattle.walk.specs.declared.Turn.the-variants.{Next, Done, Refused as Stopped}
-use Rattle.walk.specs.Units.{spanOf, firstHand, zeroed, Abandoned, Closed, AtItem, turnOf, GoesOn, Ends, Stops, Took}
+use Rattle.walk.specs.Ends.{Closed}
+use Rattle.walk.specs.Ends.{Abandoned}
+use Rattle.walk.specs.Ends.{zeroed}
+use Rattle.walk.specs.Turn.{Took}
+use Rattle.walk.specs.Turn.{Stops}
+use Rattle.walk.specs.Turn.{Ends}
+use Rattle.walk.specs.Turn.{GoesOn}
+use Rattle.walk.specs.Turn.{AtItem}
+use Rattle.walk.specs.Turn.{turnOf}
+use Rattle.walk.specs.Turn.{spanOf}
+use Rattle.walk.specs.Hand.{firstHand}
 use Rattle.walk.proofs.Chunks.{begins, goes, last-fit, Few, few, ended, refuses-so}
 use Rattle.walk.proofs.Moment.{fit, small}
 use Rattle.walk.proofs.Store.{laid-fit, behind-zeros}

@@ -7,8 +7,8 @@ use mathlib.Core.List.{List, [], _∷_}
 use mathlib.Core.Option.{Option, none, some}
 use Prim.Native.Nat.{ℕ, zero, suc, _+_, max}
 use lib.Dec.{ltb, eqb}
-use Rattle.answer.specs.Depths.{agree, Item}
 use Rattle.answer.specs.declared.Depths.{Depths}
+use Rattle.answer.specs.Depths.{agree, Item}
 use Rattle.machine.specs.Machine.{denies, gives, Machine, origin, fallTo}
 
 -- Where the depths of the places entered are kept. `S` is what the store holds at a moment.
@@ -91,12 +91,6 @@ module _ {R S : Type 0} (M : Machine R) (K : Store S) where
   run zero (it ∷ w) b = unfinished (it ∷ w) b
   run (suc n) [] b = accepted b
   run (suc n) (it ∷ w) b = elim (turn it w b) [ goes-on w′ b′ ↦ run n w′ b′ | stops r ↦ refused r (b .taken + 1) ]
-
-  -- A run, and then as many units more.
-  unfoldable pub resume : ℕ → Run R S → Run R S
-  resume n (accepted b) = accepted b
-  resume n (refused r units) = refused r units
-  resume n (unfinished w b) = run n w b
 
   -- From the entry, with the store as it is.
   abbrev pub walk : ℕ → S → Run R S

@@ -10,8 +10,8 @@ use lib.Seq.{sets}
 use Rattle.code.specs.Layout.{tagAt}
 use Rattle.code.specs.Width.{widthOf}
 use Rattle.listing.specs.Listing.{startsBefore}
-use Rattle.rules.specs.Edges.{falls, targetsOf}
 use Rattle.machine.specs.Lists.{sumOf}
+use Rattle.rules.specs.Edges.{falls, targetsOf}
 use Rattle.opening.specs.declared.Listed.{Listed}
 
 -- do so many words more have room behind those that are kept?

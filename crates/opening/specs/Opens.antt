@@ -5,17 +5,15 @@ use mathlib.Core.Option.{some}
 use mathlib.Core.Path.{_≡_}
 use Prim.Native.Nat.{ℕ, _+_, _*_, _≤_}
 use lib.ListN.{length, take, replicate}
-use Rattle.order.specs.Order.{inOrder}
 use Rattle.answer.specs.declared.Answer.{Answer}
 use Rattle.demand.specs.Chunk.{openTest}
-use Rattle.demand.specs.Span.{T, E}
+use Rattle.demand.specs.Span.{T, E, Span, InCode}
+use Rattle.order.specs.Order.{inOrder}
 use Rattle.rules.specs.Script.{Script}
-use Rattle.demand.specs.Span.{Span}
 use Rattle.opening.specs.declared.Opened.{Opened}
 use Rattle.opening.specs.declared.Opened.the-variants.{Ready, Refused}
 use Rattle.opening.specs.declared.Room.{Room}
 use Rattle.opening.specs.Listing.{fronted}
-use Rattle.demand.specs.Span.{InCode}
 use Rattle.opening.specs.Records.{keys, laid}
 
 -- the first words put in order, r of them left, and nothing else in either buffer

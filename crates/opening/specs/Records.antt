@@ -4,11 +4,10 @@
 use mathlib.Core.List.{List, _∷_, _++_}
 use Prim.Native.Nat.{ℕ, _-_}
 use lib.ListN.{length, replicate}
-use Rattle.order.specs.Order.{inOrder}
-use Rattle.demand.specs.Span.{chunkStarts}
 use Rattle.demand.specs.Rule.{allTargets}
+use Rattle.demand.specs.Span.{chunkStarts, Span}
+use Rattle.order.specs.Order.{inOrder}
 use Rattle.rules.specs.Script.{Script}
-use Rattle.demand.specs.Span.{Span}
 
 module _ (S : Script) (span : Span) where
   -- the entry and all targets

@@ -12,7 +12,7 @@ ghost use Rattle.rules.specs.Shapes.{Shape};
 ghost use Rattle.rules.specs.There.{SwitchThere};
 ghost use Rattle.opening.specs.Listing.{targetsAt, fallAt, OneListed, EntryStored, AllListed};
 ghost use Rattle.opening.specs.Opens.{KeysLaid, Opens};
-ghost use Rattle.rules.specs.Script.{script};
+ghost use Rattle.rules.specs.FromLists.{script};
 ghost use Rattle.opening.specs.Ready.{Listable, Marked, spanOf};
 ghost use Rattle.demand.specs.Span.{InCode};
 ghost use Rattle.answer.specs.Answer.{told};

@@ -8,10 +8,10 @@ use lib.Dec.{ltb}
 use lib.ListN.{length, getD}
 use Rattle.code.specs.Layout.{tagAt}
 use Rattle.code.specs.Told.{Told, found, without}
+use Rattle.guards.specs.Guards.{isThere}
 use Rattle.rules.specs.Edges.{falls, targetsOf}
 use Rattle.rules.specs.Effects as effects
 use Rattle.rules.specs.Rights.{required}
-use Rattle.guards.specs.Guards.{isThere}
 use Rattle.probe.specs.declared.instruction.EffectTold.{EffectTold}
 
 -- number 0 and the value where a test passes, number 1 where not

@@ -7,12 +7,13 @@ use mathlib.Core.List.{List, [], _∷_, _++_, map}
 use Prim.Native.Nat.{ℕ, _+_, _-_}
 use lib.Dec.{eqb}
 use lib.ListN.{length}
-use Rattle.code.specs.Layout.{among, tagAt, indexAt, targetAt}
-use Rattle.code.specs.Tags.{RETURN, THROW, ITER-INIT, ITER-DROP, POP-HANDLER, SWITCH, JUMP, SKIP-IF-NOT-UNIT, jumpIfs, iterNexts, pushHandlers}
-use Rattle.code.specs.Width.{widthAt}
-use Rattle.pools.specs.Pools.{Switch, Case, switchAt, casesOf, rangesOf}
 use Rattle.answer.specs.declared.Depths.{Depths}
 use Rattle.answer.specs.Depths.{Item}
+use Rattle.code.specs.Layout.{among, tagAt, indexAt, targetAt}
+use Rattle.code.specs.Tags.{RETURN, THROW, ITER-INIT, ITER-DROP, POP-HANDLER, SWITCH, JUMP, SKIP-IF-NOT-UNIT, jumpIfs}
+use Rattle.code.specs.Tags.{iterNexts, pushHandlers}
+use Rattle.code.specs.Width.{widthAt}
+use Rattle.pools.specs.Pools.{Switch, Case, switchAt, casesOf, rangesOf}
 use Rattle.rules.specs.Effects.{pops, pushes}
 use Rattle.rules.specs.Script.{Script, tagOf}
 

@@ -7,8 +7,8 @@ use Rattle.code.specs.ByTag.{Row, _for_, among, lookUp}
 use Rattle.code.specs.Layout.{tagAt, countAt, indexAt}
 use Rattle.code.specs.Tags.{UNIT, FALSE, TRUE, POP, RETURN, THROW, ITER-INIT, INTERPOLATE-START, INTERPOLATE-APPEND}
 use Rattle.code.specs.Tags.{INTERPOLATE-END, IS-SHARED, MAKE-FN-PTR, ROTATE, CURRY, MAKE-CLOSURE, CHAIN, MAKE-ARRAY}
-use Rattle.code.specs.Tags.{MAKE-MAP, SWITCH, IMPORT, CALL, SKIP-IF-NOT-UNIT, CALL-OP}
-use Rattle.code.specs.Tags.{loads, stores, declares, assigns, jumpIfs, checks, callRefs, callFnPtrs, iterNexts}
+use Rattle.code.specs.Tags.{MAKE-MAP, SWITCH, IMPORT, CALL, SKIP-IF-NOT-UNIT, CALL-OP, loads, stores, declares, assigns}
+use Rattle.code.specs.Tags.{jumpIfs, checks, callRefs, callFnPtrs, iterNexts}
 use Rattle.pools.specs.Pools.{chainAt}
 
 -- an amount: so many, so many for each of the count n, and so many for each of the chain's operands k

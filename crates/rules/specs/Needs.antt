@@ -5,9 +5,9 @@ use mathlib.Core.List.{_∷_}
 use mathlib.Core.Path.{_≡_}
 use Prim.Native.Nat.{ℕ, _≤_}
 use lib.Dec.{eqb}
+use Rattle.answer.specs.declared.Depths.{Depths}
 use Rattle.code.specs.Layout.{among}
 use Rattle.code.specs.Tags.{ITER-DROP, POP-HANDLER, iterNexts}
-use Rattle.answer.specs.declared.Depths.{Depths}
 use Rattle.rules.specs.Effects.{needs}
 use Rattle.rules.specs.Rights.{required, lacking}
 use Rattle.rules.specs.Script.{Script, tagOf}

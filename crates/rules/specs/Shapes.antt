@@ -7,8 +7,7 @@ use mathlib.Core.Path.{_≡_}
 use Prim.Native.Nat.{ℕ, _+_, _/_, _%_, _^_, _<_}
 use lib.Dec.{eqb, leb, ltb}
 use Rattle.code.specs.Layout.{Field, target, count8, count16, slot, index, layout, among}
-use Rattle.code.specs.Tags.{ITER-INIT, ITER-DROP, POP-HANDLER, SWITCH}
-use Rattle.code.specs.Tags.{iterNexts, pushHandlers}
+use Rattle.code.specs.Tags.{ITER-INIT, ITER-DROP, POP-HANDLER, SWITCH, iterNexts, pushHandlers}
 use Rattle.code.specs.Width.{widthOf}
 use Rattle.rules.specs.Asks.{Asks}
 use Rattle.rules.specs.Edges.{jumping, falls, plain}

@@ -6,11 +6,11 @@ use mathlib.Core.List.{List}
 use mathlib.Core.Path.{_≡_}
 use Prim.Native.Nat.{ℕ, _+_, _^_, _≤_, _<_}
 use lib.ListN.{length}
+use Rattle.answer.specs.declared.Depths.{Depths}
 use Rattle.code.specs.Layout.{among, tagAt, indexAt}
 use Rattle.code.specs.Tags.{CHAIN, SWITCH}
 use Rattle.pools.specs.Good.{StepsWithin, CasesWithin, RangesWithin}
 use Rattle.pools.specs.Pools.{chainAt, switchAt, chainsIn, stepsIn, switchesIn, casesIn}
-use Rattle.answer.specs.declared.Depths.{Depths}
 use Rattle.rules.specs.Asks.{qualifiable}
 use Rattle.rules.specs.Needs.{iteratorsNeeded, handlersNeeded}
 use Rattle.rules.specs.Shapes.{Flow}

@@ -7,17 +7,17 @@ use mathlib.Core.List.{List}
 use mathlib.Core.Option.{Option, none, some}
 use Prim.Native.Nat.{ℕ, _+_, _^_, _≤_, _<_}
 use lib.Dec.{ltb, leb}
-use Rattle.marks.specs.Marks.{bitAt, isOne}
 use Rattle.answer.specs.Answer.{unless}
 use Rattle.answer.specs.declared.Answer.{Answer}
 use Rattle.answer.specs.declared.Answer.the-variants.{JumpOutOfRange, JumpIntoAnInstruction, FallsOffTheEnd}
 use Rattle.answer.specs.declared.Depths.{Depths}
+use Rattle.demand.specs.Rule.{needsTest, rule}
+use Rattle.demand.specs.Span.{Span}
+use Rattle.machine.specs.Machine as machine
+use Rattle.marks.specs.Marks.{bitAt, isOne}
 use Rattle.rules.specs.declared.Effect.{Effect}
 use Rattle.rules.specs.Edges.{falls, plain, afterOf, jumpedOf, after, jumped, next}
-use Rattle.machine.specs.Machine as machine
-use Rattle.demand.specs.Rule.{needsTest, rule}
 use Rattle.rules.specs.Script.{Script, tagOf}
-use Rattle.demand.specs.Span.{Span}
 use Rattle.rules.specs.Shapes.{Flow}
 use Rattle.ruling.specs.declared.Edges.{Edges}
 use Rattle.ruling.specs.declared.Ruling.{Ruling}

@@ -20,7 +20,7 @@ ghost use Rattle.rules.specs.Shapes.{Shape, Flow};
 ghost use Rattle.rules.specs.There.{NameThere, ChainThere, SwitchThere, HeldBy};
 ghost use Rattle.machine.specs.Walk.{firstBad};
 ghost use Rattle.answer.specs.Answer.{told};
-ghost use Rattle.rules.specs.Script.{script};
+ghost use Rattle.rules.specs.FromLists.{script};
 ghost use Rattle.ruling.specs.Ruling.{leaving, Settles, settled, jumpTest, ruled};
 use answer::Answer;
 use answer::Depths;

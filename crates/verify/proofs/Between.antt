@@ -31,10 +31,14 @@ use Rattle.judging.specs.declared.Judgement.{Judgement}
 use Rattle.judging.specs.declared.Judgement.the-variants.{Passed as AllPass, Refused as Failed}
 use Rattle.verify.specs.declared.stages.State.{State}
 use Rattle.verify.specs.declared.stages.State.the-variants.{Going, Ended}
-use Rattle.judging.specs.Spans.{chunkAt}
-use Rattle.verify.specs.Call.{Memory, BothClear, marksOn, Calls}
-use Rattle.judging.specs.Judging.{JudgedAll, judgeAll, Judges}
-use Rattle.verify.specs.Stages.{mostReached, mostTaken, opened, wordsOn, Begins, advanced, marksThen, Advances, Fits, Few, Asks, Takes, goesOn, finished}
+use Rattle.demand.specs.Span.{chunkAt}
+use Rattle.verify.specs.Call.{Memory, marksOn, Calls}
+use Rattle.verify.specs.Stages.{BothClear}
+use Rattle.judging.specs.Judging.{JudgedAll, judgeAll}
+use Rattle.judging.specs.Judges.{Judges}
+use Rattle.verify.specs.Stages.{opened, wordsOn, Begins, advanced, marksThen, Advances, Fits, Few, Asks, Takes, goesOn, finished}
+use Rattle.judging.specs.Judges.{mostTaken}
+use Rattle.judging.specs.Judges.{mostReached}
 use Rattle.judging.proofs.Chain.{judge-passes, judge-fails, judge-none, Judging, judging-first, judging-done, judging-fails, judging-passes}
 use Rattle.verify.proofs.Small.{small}
 use Rattle.verify.proofs.Whole.{bare, ready, untouched, zeroed-all, marked-so, starts-small, judged-call, zeros-still, concludes-passed, concludes-refused}

@@ -20,7 +20,8 @@ use Rattle.listing.proofs.Starts.{start-listed}
 use Rattle.demand.specs.Span.{InCode}
 use Rattle.opening.proofs.Tests.{span-exactly, room-exactly}
 use Rattle.answer.specs.Answer.{numbered, unless}
-use Rattle.demand.specs.Chunk.{spanTest, roomTest, openTest, Judged, passes, fails, judgeChunk, BeforeWalk}
+use Rattle.demand.specs.Chunk.{spanTest, roomTest, openTest, Judged, passes, fails, judgeChunk}
+use Rattle.demand.specs.BeforeWalk.{BeforeWalk}
 use Rattle.demand.specs.Span.{T, E}
 use Rattle.rules.specs.Edges.{degree}
 use Rattle.machine.specs.Lists.{sumOf}

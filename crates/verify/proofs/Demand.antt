@@ -20,7 +20,7 @@ use Rattle.answer.specs.declared.verdict.Verdict.{Verdict}
 use Rattle.demand.specs.Span.{Span}
 use Rattle.demand.specs.Writing.{Writing}
 use Rattle.answer.proofs.Apart.{zero≢one}
-use Rattle.judging.specs.Spans.{chunkAt}
+use Rattle.demand.specs.Span.{chunkAt}
 use Rattle.verify.specs.Call.{Memory, afterLateTests, afterEarlyTests, result, Calls}
 use Rattle.verify.specs.Demand.{OpeningKind, WalkKind, ComesToChunks, OpensAt, ShutAt, FailsWalkAt, FailsAt}
 use Rattle.verify.specs.Demand.{Good, Acceptable, RefusedFor, Fills}

@@ -4,7 +4,8 @@ use Prim.Native.Nat.{ℕ, _+_, _^_, _≤_}
 use native.Mathlib.Omega.{arith}
 use Rattle.opening.specs.Ready.{Ready}
 use Rattle.pools.proofs.Most.{code-small, room-small}
-use Rattle.demand.specs.Chunk.{passes, walked, judgeChunk, BeforeWalk}
+use Rattle.demand.specs.Chunk.{passes, walked, judgeChunk}
+use Rattle.demand.specs.BeforeWalk.{BeforeWalk}
 use Rattle.demand.specs.Span.{E}
 use Rattle.demand.specs.Rule.{machine}
 use Rattle.rules.specs.Script.{Script}
@@ -14,7 +15,8 @@ use Rattle.demand.proofs.Demand.{Told, accepts, refuses, walk-told, judged-walk
 use Rattle.machine.proofs.Ends.{accepted-bounded}
 use Rattle.demand.proofs.Keeps.{keeps-laws}
 use Rattle.answer.proofs.Apart.{zero≢one}
-use Rattle.verify.specs.Stages.{mostReached, mostTaken}
+use Rattle.judging.specs.Judges.{mostTaken}
+use Rattle.judging.specs.Judges.{mostReached}
 use Rattle.verify.proofs.Chunks.{passes-opens}
 use Rattle.judging.proofs.Walking.{few-edges}
 

@@ -8,13 +8,12 @@ use mathlib.Core.List.{List}
 use mathlib.Core.Path.{_≡_}
 use Prim.Native.Nat.{ℕ, zero, suc, _+_, _≤_, _<_}
 use lib.ListN.{length, getD}
-use Rattle.listing.specs.Listing.{starts}
 use Rattle.answer.specs.declared.verdict.Verdict.{Verdict}
 use Rattle.demand.specs.Measures.{Measures}
-use Rattle.rules.specs.Script.{Script}
-use Rattle.demand.specs.Span.{Span}
+use Rattle.demand.specs.Span.{Span, chunkAt}
 use Rattle.demand.specs.Writing.{Writing}
-use Rattle.judging.specs.Spans.{chunkAt}
+use Rattle.listing.specs.Listing.{starts}
+use Rattle.rules.specs.Script.{Script}
 
 -- the sum of f i over the numbers i below n
 unfoldable pub sumBelow : (f : ℕ → ℕ) (n : ℕ) → ℕ

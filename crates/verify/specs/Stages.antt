@@ -8,23 +8,24 @@ use mathlib.Core.Path.{_≡_}
 use Prim.Native.Nat.{ℕ, _+_, _*_, _^_, _≤_, _<_}
 use lib.Dec.{leb, ltb}
 use lib.ListN.{length, replicate}
-use Rattle.before.specs.Before.{Test, beforeChunks}
-use Rattle.before.specs.Input.{Input}
-use Rattle.before.specs.Memory.{marksAfter}
-use Rattle.marks.specs.Marks.{total}
-use Rattle.opening.specs.Ready.{Ready, Marked}
-use Rattle.pools.specs.Sizes.{maxChunks}
 use Rattle.answer.specs.Answer.{noChunk, numbered}
 use Rattle.answer.specs.declared.Answer.the-variants.{Accepted}
 use Rattle.answer.specs.declared.verdict.Verdict.{Verdict}
-use Rattle.rules.specs.Script.{Script}
+use Rattle.before.specs.Before.{Test, beforeChunks}
+use Rattle.before.specs.Input.{Input}
+use Rattle.before.specs.Memory.{marksAfter}
 use Rattle.demand.specs.Span.{Span}
 use Rattle.judging.specs.declared.Judgement.{Judgement}
 use Rattle.judging.specs.declared.Judgement.the-variants.{Passed, Refused}
+use Rattle.judging.specs.Judges.{mostReached, mostTaken}
+use Rattle.judging.specs.Judging.{JudgedAll, judgeAll}
+use Rattle.marks.specs.Marks.{total}
+use Rattle.opening.specs.Ready.{Ready, Marked}
+use Rattle.pools.specs.Sizes.{maxChunks}
+use Rattle.rules.specs.Script.{Script}
+use Rattle.verify.specs.Call.{marksOn}
 use Rattle.verify.specs.declared.stages.State.{State}
 use Rattle.verify.specs.declared.stages.State.the-variants.{Going, Ended}
-use Rattle.verify.specs.Call.{marksOn}
-use Rattle.judging.specs.Judging.{JudgedAll, judgeAll}
 
 -- ---- before the chunks
 
@@ -37,6 +38,11 @@ opened (some a) instructions = Ended (numbered noChunk a)
 unfoldable pub wordsOn : Test → List ℕ → List ℕ
 wordsOn none words = replicate (length words) 0
 wordsOn (some a) words = cond (leb (numbered noChunk a .kind) 3) words (replicate (length words) 0)
+
+-- records and work are zeroed
+pub record BothClear (records work records′ work′ : List ℕ) : Type 0 where
+  pub records-zero : records′ ≡ replicate (length records) 0
+  pub work-zero : work′ ≡ replicate (length work) 0
 
 -- what a call for everything before the chunks comes to, with room for so many heights
 pub record Begins (I : Input) (heights : ℕ) (marks records work : List ℕ) (r : State) (marks′ records′ work′ : List ℕ) : Type 0 where
@@ -66,13 +72,6 @@ unfoldable pub Fits : State → Judgement → Type 0
 Fits (Going instructions reached taken) (Passed more further) = (reached + more < 2 ^ 64) × (taken + further < 2 ^ 64)
 Fits (Going instructions reached taken) (Refused chunk a) = Unit {0}
 Fits (Ended verdict) judgement = Unit {0}
-
--- one chunk counts no more than these: it has as many instructions as bytes at most, and 1 + E is below 2^40
-abbrev pub mostReached : ℕ
-mostReached = 2 ^ 21
-
-abbrev pub mostTaken : ℕ
-mostTaken = 2 ^ 40
 
 -- the counts are those of so many chunks at most
 unfoldable pub Few : State → (chunks : ℕ) → Type 0

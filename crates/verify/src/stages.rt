@@ -2,8 +2,8 @@
 ghost use mathlib.Core.Path.{_≡_};
 ghost use lib.ListN.{length};
 ghost use Rattle.before.specs.Input.{input};
-ghost use Rattle.rules.specs.Script.{script};
-ghost use Rattle.verify.specs.Call.{BothClear};
+ghost use Rattle.rules.specs.FromLists.{script};
+ghost use Rattle.verify.specs.Stages.{BothClear};
 ghost use Rattle.verify.specs.Stages.{Begins, Fits, Advances, Asks, Takes, goesOn, finished};
 use judging::Judgement;
 use answer::Answer;

@@ -8,7 +8,9 @@ use Rattle.code.specs.Width.{widthOf}
 use Rattle.listing.proofs.Before.{before-few}
 use Rattle.answer.specs.declared.Answer.{Answer}
 use Rattle.answer.specs.Answer.{unless}
-use Rattle.demand.specs.Chunk.{passes, fails, heightTest, measured, walked, judgeChunk, redeclared, BeforeWalk}
+use Rattle.demand.specs.Chunk.{passes, fails, heightTest, measured, walked, judgeChunk}
+use Rattle.demand.specs.BeforeWalk.{redeclared}
+use Rattle.demand.specs.BeforeWalk.{BeforeWalk}
 use Rattle.answer.specs.Depths.{Item}
 use Rattle.demand.specs.Span.{E}
 use Rattle.machine.specs.Machine.{origin}
@@ -29,7 +31,15 @@ use Rattle.walk.specs.declared.Hand.{Hand}
 use Rattle.opening.specs.declared.Room.{Room}
 use Rattle.opening.specs.Records.{keys, laid}
 use Rattle.walk.specs.Records.{seenStore}
-use Rattle.walk.specs.Units.{itemOf, bookWith, bookOf, firstHand, spanOf, turnOf, Going, GoesOn, Ends}
+use Rattle.walk.specs.Turn.{Ends}
+use Rattle.walk.specs.Turn.{GoesOn}
+use Rattle.walk.specs.Turn.{Going}
+use Rattle.walk.specs.Turn.{turnOf}
+use Rattle.walk.specs.Turn.{spanOf}
+use Rattle.walk.specs.Hand.{firstHand}
+use Rattle.walk.specs.Hand.{bookOf}
+use Rattle.walk.specs.Hand.{bookWith}
+use Rattle.walk.specs.Hand.{itemOf}
 use Rattle.walk.proofs.Store.{Fit, faithful, laid-fit, laid-empty}
 
 measured-as : (declared : ℕ) (b : Book Log) {height reached taken : ℕ} → height ≡ b .height → reached ≡ b .reached → taken ≡ b .taken

@@ -14,7 +14,14 @@ use Rattle.walk.specs.declared.Hand.{Hand}
 use Rattle.opening.specs.declared.Room.{Room}
 use Rattle.walk.specs.declared.Turn.{Turn}
 use Rattle.walk.specs.declared.Turn.the-variants.{Next}
-use Rattle.walk.specs.Units.{jumpsTo, Pushed, fallen, enteredHand, noted, Leaves, Left, Back}
+use Rattle.walk.specs.Leaving.{Left}
+use Rattle.walk.specs.Leaving.{Leaves}
+use Rattle.walk.specs.Leaving.{noted}
+use Rattle.walk.specs.Leaving.{Back}
+use Rattle.walk.specs.Leaving.{Pushed}
+use Rattle.walk.specs.Leaving.{jumpsTo}
+use Rattle.walk.specs.Hand.{enteredHand}
+use Rattle.walk.specs.Hand.{fallen}
 use Rattle.walk.proofs.Turns.{noted-length, noted-front}
 
 module _ (room : Room) (h : Hand) (edges : Edges) (targets records work : List ℕ) (L : Leaves room h (edges .next) targets records work)

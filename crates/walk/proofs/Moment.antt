@@ -7,7 +7,7 @@ use native.Mathlib.Omega.{arith}
 use lib.ListN.{length}
 use Rattle.code.specs.Width.{widthOf}
 use Rattle.listing.proofs.Before.{before-few}
-use Rattle.demand.specs.Chunk.{BeforeWalk}
+use Rattle.demand.specs.BeforeWalk.{BeforeWalk}
 use Rattle.demand.specs.Span.{E, chunkStarts}
 use Rattle.rules.specs.Edges.{degree}
 use Rattle.machine.specs.Lists.{here}
@@ -29,7 +29,10 @@ use Rattle.words.proofs.Items.{length-items}
 use Rattle.walk.specs.declared.Hand.{Hand}
 use Rattle.opening.specs.declared.Room.{Room}
 use Rattle.walk.specs.Records.{seenStore}
-use Rattle.walk.specs.Units.{itemOf, bookOf, spanOf, Going}
+use Rattle.walk.specs.Turn.{Going}
+use Rattle.walk.specs.Turn.{spanOf}
+use Rattle.walk.specs.Hand.{bookOf}
+use Rattle.walk.specs.Hand.{itemOf}
 use Rattle.walk.proofs.Store.{Fit, faithful, laid-fit, laid-empty}
 
 module _ (S : Script) (room : Room) (records work : List ℕ) (B : BeforeWalk S (spanOf room) (length records) (length work)) (h : Hand) (G : Going S room h records work) where

@@ -29,7 +29,20 @@ use Rattle.walk.specs.declared.Turn.{Turn}
 use Rattle.walk.specs.declared.Turn.the-variants.{Next, Done, Refused}
 use Rattle.opening.specs.Records.{keys}
 use Rattle.walk.specs.Records.{seenStore}
-use Rattle.walk.specs.Units.{itemOf, bookOf, jumpsTo, droppedHand, enteredHand, Leaves, Left, Back, spanOf, turnOf, AtItem, Unseen, Comes, Took}
+use Rattle.walk.specs.Turn.{Took}
+use Rattle.walk.specs.Turn.{Comes}
+use Rattle.walk.specs.Turn.{Unseen}
+use Rattle.walk.specs.Turn.{AtItem}
+use Rattle.walk.specs.Turn.{turnOf}
+use Rattle.walk.specs.Turn.{spanOf}
+use Rattle.walk.specs.Leaving.{Left}
+use Rattle.walk.specs.Leaving.{Leaves}
+use Rattle.walk.specs.Leaving.{Back}
+use Rattle.walk.specs.Leaving.{jumpsTo}
+use Rattle.walk.specs.Hand.{enteredHand}
+use Rattle.walk.specs.Hand.{droppedHand}
+use Rattle.walk.specs.Hand.{bookOf}
+use Rattle.walk.specs.Hand.{itemOf}
 use Rattle.walk.proofs.Turns.{front, noted-so, entered-turn}
 
 module _ (S : Script) (room : Room) where

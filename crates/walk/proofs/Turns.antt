@@ -35,7 +35,15 @@ use Rattle.walk.specs.declared.Hand.{Hand}
 use Rattle.opening.specs.declared.Room.{Room}
 use Rattle.opening.specs.Records.{named, keys}
 use Rattle.walk.specs.Records.{slotOf, seenStore}
-use Rattle.walk.specs.Units.{itemOf, bookOf, jumpsTo, noted, Leaves, spanOf, turnOf, AtItem, Unseen}
+use Rattle.walk.specs.Turn.{Unseen}
+use Rattle.walk.specs.Turn.{AtItem}
+use Rattle.walk.specs.Turn.{turnOf}
+use Rattle.walk.specs.Turn.{spanOf}
+use Rattle.walk.specs.Leaving.{Leaves}
+use Rattle.walk.specs.Leaving.{noted}
+use Rattle.walk.specs.Leaving.{jumpsTo}
+use Rattle.walk.specs.Hand.{bookOf}
+use Rattle.walk.specs.Hand.{itemOf}
 use Rattle.walk.proofs.Moment.{fit, in-chunk, small, roomy}
 use Rattle.walk.proofs.Store.{take-note}
 use Rattle.opening.proofs.Targets.{few-keys, keys-rise, named-key, key-named, key-there, there-key}

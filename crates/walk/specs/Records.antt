@@ -4,12 +4,11 @@ use mathlib.Core.Bool.{cond}
 use mathlib.Core.List.{List}
 use Prim.Native.Nat.{ℕ, _+_, _*_}
 use Rattle.code.specs.Layout.{among}
+use Rattle.demand.specs.Span.{T, Span}
+use Rattle.machine.specs.Walk.{Store}
 use Rattle.opening.specs.Records.{keys}
 use Rattle.order.specs.Order.{below}
-use Rattle.demand.specs.Span.{T}
 use Rattle.rules.specs.Script.{Script}
-use Rattle.demand.specs.Span.{Span}
-use Rattle.machine.specs.Walk.{Store}
 use Rattle.words.specs.Seen.{seenAt, noteAt}
 
 module _ (S : Script) (span : Span) where

@@ -69,7 +69,8 @@ use denote.Exit.{yes}
 use Rattle.before.specs.Input.{Input, input}
 use Rattle.answer.specs.declared.verdict.Verdict.{Verdict}
 use Rattle.demand.specs.Span.{Span}
-use Rattle.rules.specs.Script.{Script, script}
+use Rattle.rules.specs.Script.{Script}
+use Rattle.rules.specs.FromLists.{script}
 use Rattle.answer.proofs.verdict.Verdict as D
 use Rattle.answer.proofs.verdict.Verdict.Laws as D′
 use Rattle.verify.specs.declared.stages.State.{State}

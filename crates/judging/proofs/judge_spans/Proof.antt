@@ -12,15 +12,21 @@ use Rattle.opening.specs.Opens.{Opens, Readies}
 use Rattle.opening.specs.Ready.{Ready, Marked}
 use Rattle.pools.specs.Sizes.{maxChunks}
 use Rattle.pools.proofs.Most.{code-small, room-small}
-use Rattle.demand.specs.Chunk.{judgeChunk, redeclared}
-use Rattle.rules.specs.Script.{Script, script}
+use Rattle.demand.specs.Chunk.{judgeChunk}
+use Rattle.demand.specs.BeforeWalk.{redeclared}
+use Rattle.rules.specs.Script.{Script}
+use Rattle.rules.specs.FromLists.{script}
 use Rattle.demand.specs.Span.{Span}
 use Rattle.answer.specs.declared.Answer.{Answer}
 use Rattle.demand.proofs.Demand.{fails-by, passes-to, judged-shut}
 use Rattle.walk.specs.declared.Counts.{Counts}
 use Rattle.walk.specs.declared.Hand.{Hand}
 use Rattle.walk.specs.declared.Turn.the-variants.{Next, Done, Refused}
-use Rattle.walk.specs.Units.{spanOf, turnOf, GoesOn, Ends, Stops}
+use Rattle.walk.specs.Turn.{Stops}
+use Rattle.walk.specs.Turn.{Ends}
+use Rattle.walk.specs.Turn.{GoesOn}
+use Rattle.walk.specs.Turn.{turnOf}
+use Rattle.walk.specs.Turn.{spanOf}
 use Rattle.judging.specs.Spans.{spansOf}
 use Rattle.judging.proofs.Chain.{span-count, span-there, span-within, Judging, judging-first, judging-done, judging-fails, judging-passes}
 use Rattle.judging.proofs.Walking.{few-edges, Walking, opens-refused, opens-ready, took-next, took-done, took-refused, opened-rises, opened-keys, first-walking-here, judged-here}

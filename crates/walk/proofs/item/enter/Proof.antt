@@ -8,13 +8,14 @@ use Rattle.rules.specs.Edges.{targets, targetsOf, next}
 use Rattle.rules.specs.Script.{Script}
 use Rattle.ruling.specs.declared.Edges.{Edges}
 use Rattle.ruling.specs.declared.Ruling.the-variants.{Gives}
-use Rattle.rules.specs.Script.{script}
+use Rattle.rules.specs.FromLists.{script}
 use Rattle.ruling.specs.Ruling.{edgesOf, ruled}
 use Rattle.walk.specs.declared.Hand.{Hand}
 use Rattle.answer.specs.Answer.{told}
 use Rattle.rules.proofs.Targets.{switch-entry-of}
 use Rattle.ruling.proofs.Laws.{denied, given-edges, given-rule}
-use Rattle.walk.specs.Units.{Leaves, spanOf}
+use Rattle.walk.specs.Turn.{spanOf}
+use Rattle.walk.specs.Leaving.{Leaves}
 use Rattle.walk.proofs.Took.{stopped, left-took}
 use Rattle.walk.proofs.Turns.{start, wide, fitting, leaves, denied-turn, bad-turn}
 use Rattle.walk.proofs.item.enter.Statement.{statement}

@@ -8,11 +8,12 @@ use Prim.Native.Nat.{_^_, _<_}
 use Rattle.demand.specs.Rule.{machine}
 use Rattle.rules.specs.Script.{Script}
 use Rattle.machine.specs.Walk.{seen}
-use Rattle.rules.specs.Script.{script}
+use Rattle.rules.specs.FromLists.{script}
 use Rattle.words.specs.Seen.{told}
 use Rattle.walk.specs.declared.Hand.{Hand}
 use Rattle.walk.specs.Records.{seenStore}
-use Rattle.walk.specs.Units.{spanOf, AtItem}
+use Rattle.walk.specs.Turn.{AtItem}
+use Rattle.walk.specs.Turn.{spanOf}
 use Rattle.walk.proofs.Took.{stopped, off-turn, dropped-took, clash-turn}
 use Rattle.walk.proofs.Turns.{rises, keys-room, notes-room, waits-room, taken-fits, seen-so}
 use Rattle.walk.proofs.item.take_item.Statement.{statement}
