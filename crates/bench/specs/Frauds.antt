@@ -14,11 +14,11 @@ use Rattle.listing.specs.Listing.{starts}
 use Rattle.rules.specs.Script.{Script}
 use Rattle.verify.specs.Accounts.{sumBelow, Measured}
 use Rattle.verify.specs.Call.{Memory, Result, Calls}
-use Rattle.bench.specs.Bench.{Row, input, lent}
+use Rattle.bench.specs.Bench.{BenchRow, askedBy, lent}
 
 -- a call on what a row asks may come to this verdict and this memory
-abbrev pub Comes : Row → Verdict → Memory → Type 0
-Comes row r after = Calls (input row) (row .spans) lent r after
+abbrev pub CallsOn : BenchRow → Verdict → Memory → Type 0
+CallsOn row r after = Calls (askedBy row) (row .spans) lent r after
 
 -- no buffer is as it was
 pub record ChangesAll (before after : Memory) : Type 0 where

@@ -19,11 +19,10 @@ use Rattle.answer.specs.declared.Answer.{Answer}
 use Rattle.answer.specs.declared.Answer.the-variants.{JumpOutOfRange, JumpIntoAnInstruction}
 use Rattle.demand.specs.BeforeWalk.{BeforeWalk}
 use Rattle.rules.specs.Edges.{next}
-use Rattle.demand.specs.Span.{chunkStarts}
+use Rattle.demand.specs.Span.{chunkStarts, Span}
 use Rattle.machine.specs.Lists.{_∈_}
 use Rattle.demand.specs.Rule.{machine, judge}
 use Rattle.rules.specs.Script.{Script}
-use Rattle.demand.specs.Span.{Span}
 use Rattle.demand.specs.Span as spans
 use Rattle.machine.proofs.Laws.{InChunk}
 use Rattle.answer.proofs.Apart.{zero≢one}

@@ -18,18 +18,18 @@ use Rattle.answer.specs.declared.Depths.{Depths}
 use Rattle.demand.specs.BeforeWalk.{BeforeWalk}
 use Rattle.answer.specs.Depths.{Item}
 use Rattle.rules.specs.Edges.{falls, targets, afterOf, jumpedOf, after, next, degree}
-use Rattle.demand.specs.Span.{chunkStarts}
+use Rattle.demand.specs.Span.{chunkStarts, Span}
 use Rattle.rules.specs.Effects.{pops, pushes}
 use Rattle.machine.specs.Lists.{_∈_, here, there}
 use Rattle.machine.specs.Machine.{Ruling, fallTo}
 use Rattle.demand.specs.Rule.{allTargets, rule, machine}
 use Rattle.rules.specs.Script.{Script, tagOf}
-use Rattle.demand.specs.Span.{Span}
 use Rattle.rules.proofs.Amounts.{pushes-at-most-one, pushes-none}
 use Rattle.demand.proofs.Inside.{inside, judged, entry-starts, next-above, next-least, next-starts, listed}
 use Rattle.machine.proofs.Laws.{InChunk, Given, Near, Carried, Fair, Laws}
 use Rattle.machine.proofs.Lists.{∈-cases, map-∈}
-use Rattle.demand.proofs.Says.{jumpTo, jumps, fall, Says, no-rights, no-operands, no-iterator, no-handler, no-next, goes, says}
+use Rattle.demand.proofs.Says.{jumpTo, jumps, fall, Says, no-rights, no-operands, no-iterator, no-handler}
+use Rattle.demand.proofs.Says.{no-next, goes, says}
 
 -- the targets of a listed place are among all of them
 target-listed : (S : Script) (ps : List ℕ) {p t : ℕ} → p ∈ ps → t ∈ targets S p → t ∈ allTargets S ps

@@ -1,7 +1,8 @@
 -- The rule of one instruction, case by case: it denies by the first test that fails, with that test's values; or the
 -- instruction has all that it needs, and control goes where its edges lead.
 use mathlib.Core.Bool.{Bool, true, false, not, _&&_, cond}
-use mathlib.Core.List.{List, [], _∷_, _++_, map, append-nil, Memᴰ·append-left, Memᴰ·append-right, List·Memᴰ·append-cases, List·Memᴰ·eq-of-singleton}
+use mathlib.Core.List.{List, [], _∷_, _++_, map, append-nil, Memᴰ·append-left, Memᴰ·append-right}
+use mathlib.Core.List.{List·Memᴰ·append-cases, List·Memᴰ·eq-of-singleton}
 use mathlib.Core.Logic.{_⊎_, inl, inr, _↔_}
 use mathlib.Core.Option.{Option, none, some}
 use mathlib.Core.Path.{_≡_, refl, ap}
@@ -14,7 +15,8 @@ use Rattle.code.specs.Tags.{RETURN, THROW, JUMP, SWITCH}
 use Rattle.code.proofs.Among.{among-member, member-among}
 use Rattle.answer.specs.Answer.{unless}
 use Rattle.answer.specs.declared.Answer.{Answer}
-use Rattle.answer.specs.declared.Answer.the-variants.{MissingCaps, Underflow, FallsOffTheEnd, IteratorUnderflow, HandlerUnderflow}
+use Rattle.answer.specs.declared.Answer.the-variants.{MissingCaps, Underflow, FallsOffTheEnd, IteratorUnderflow}
+use Rattle.answer.specs.declared.Answer.the-variants.{HandlerUnderflow}
 use Rattle.answer.specs.declared.Depths.{Depths}
 use Rattle.answer.specs.Depths.{Item}
 use Rattle.rules.specs.Edges.{jumping, falls, plain, targets, after, jumped, next, edges}

@@ -33,7 +33,7 @@ pub record BeforeWalk (S : Script) (span : Span) (records work : ℕ) : Type 0 w
   pub work-room : 4 * (1 + E S span) ≤ work
 
 -- a chunk is accepted by its walk, with its height and its two counts
-pub record Accepted (S : Script) (span : Span) : Type 0 where
+pub record WalkAccepts (S : Script) (span : Span) : Type 0 where
   pub height : ℕ
   pub reached : ℕ
   pub taken : ℕ

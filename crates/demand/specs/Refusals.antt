@@ -30,8 +30,8 @@ module _ (S : Script) (span : Span) where
   abbrev pub lacks : ℕ → ℕ
   lacks p = lacking (required (S .code) (S .pools .names) (S .pools .chains) (S .pools .steps) p) (S .rights)
 
-  abbrev pub need : ℕ → ℕ
-  need p = needs (S .code) (S .pools .chains) p
+  abbrev pub operandsNeeded : ℕ → ℕ
+  operandsNeeded p = needs (S .code) (S .pools .chains) p
 
   pub data Real : Answer → Type 0 where
     -- 4: it lacks these rights
@@ -44,12 +44,12 @@ module _ (S : Script) (span : Span) where
     -- 11: two paths bring different depths to it
     disagrees : {p : ℕ} {d e : Depths} → Met p d → Met p e → ¬ (d ≡ e) → Real (DepthConflict p d e)
     -- 12: it has its rights, and needs more operands than there are
-    underflows : {p : ℕ} {d : Depths} → Met p d → lacks p ≡ 0 → d .operands < need p → Real (Underflow p (need p) (d .operands))
+    underflows : {p : ℕ} {d : Depths} → Met p d → lacks p ≡ 0 → d .operands < operandsNeeded p → Real (Underflow p (operandsNeeded p) (d .operands))
     -- 13: a path runs off the end
     runs-off : {i : Item} → Path S span i → span .end ≤ i .place → Real FallsOffTheEnd
     -- 15, 16: it has its rights and its operands, and needs an iterator, or a handler, where there is none
-    no-iterator : {p : ℕ} {d : Depths} → Met p d → lacks p ≡ 0 → need p ≤ d .operands → d .iterators < iteratorsNeeded (tagOf S p) → Real (IteratorUnderflow p)
-    no-handler : {p : ℕ} {d : Depths} → Met p d → lacks p ≡ 0 → need p ≤ d .operands → d .handlers < handlersNeeded (tagOf S p) → Real (HandlerUnderflow p)
+    no-iterator : {p : ℕ} {d : Depths} → Met p d → lacks p ≡ 0 → operandsNeeded p ≤ d .operands → d .iterators < iteratorsNeeded (tagOf S p) → Real (IteratorUnderflow p)
+    no-handler : {p : ℕ} {d : Depths} → Met p d → lacks p ≡ 0 → operandsNeeded p ≤ d .operands → d .handlers < handlersNeeded (tagOf S p) → Real (HandlerUnderflow p)
 
   -- 14: a whole walk refuses nothing, and the largest depth on the paths is above the declared height
   pub record Exceeds (a : Answer) : Type 0 where

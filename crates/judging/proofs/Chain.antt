@@ -1,7 +1,7 @@
 -- Judging one chunk after the other: what is left from here is what there was from the start.
 use mathlib.Core.List.{List, [], _∷_}
 use mathlib.Core.Path.{_≡_, refl, sym, ap, _∙_}
-use Prim.Native.Nat.{ℕ, zero, suc, _+_, _*_, _^_, _≤_, _<_, min}
+use Prim.Native.Nat.{ℕ, zero, suc, _+_, _*_, _≤_, _<_, min}
 use native.Mathlib.Nat.{min-le-left, min-le-right, suc-min-suc, zero-min, min-zero, le-of-suc-le-suc, not-suc-le-zero}
 use native.Mathlib.Omega.{arith}
 use lib.ListN.{length, getD, set, drop, replicate, length-set, drop-of-length-le}
@@ -10,14 +10,11 @@ use Rattle.answer.specs.declared.Answer.{Answer}
 use Rattle.demand.specs.Chunk.{passes, fails, judgeChunk}
 use Rattle.demand.specs.Chunk as chunk
 use Rattle.rules.specs.Script.{Script}
-use Rattle.demand.specs.Span.{Span}
+use Rattle.demand.specs.Span.{Span, chunkAt}
 use Rattle.judging.specs.declared.Judgement.the-variants.{Passed, Refused}
-use Rattle.demand.specs.Span.{chunkAt}
 use Rattle.judging.specs.Spans.{spansOf}
 use Rattle.judging.specs.Judging.{JudgedAll, judgeAll}
-use Rattle.judging.specs.Judges.{Judges}
-use Rattle.judging.specs.Judges.{mostTaken}
-use Rattle.judging.specs.Judges.{mostReached}
+use Rattle.judging.specs.Judges.{Judges, mostTaken, mostReached}
 
 -- ---- spans
 

@@ -56,9 +56,9 @@ push [] w = w
 push (j ∷ js) w = push js (j ∷ w)
 
 -- The refusal of the first jump whose target a test refuses.
-unfoldable pub firstBad : {R : Type 0} → (ℕ → Option R) → List Item → Option R
-firstBad test [] = none
-firstBad test (j ∷ js) = elim (test (j .place)) [ some r ↦ some r | none ↦ firstBad test js ]
+unfoldable pub firstBadJump : {R : Type 0} → (ℕ → Option R) → List Item → Option R
+firstBadJump test [] = none
+firstBadJump test (j ∷ js) = elim (test (j .place)) [ some r ↦ some r | none ↦ firstBadJump test js ]
 
 module _ {R S : Type 0} (M : Machine R) (K : Store S) where
   -- The depths with which a place was seen: asked of the named places only.
@@ -77,7 +77,7 @@ module _ {R S : Type 0} (M : Machine R) (K : Store S) where
           ]
           | none ↦ elim (M .rule (it .place) (it .depths)) [
             | denies r ↦ stops r
-            | gives post fall jumps ↦ elim (firstBad (M .judge (it .place)) jumps) [
+            | gives post fall jumps ↦ elim (firstBadJump (M .judge (it .place)) jumps) [
               | some r ↦ stops r
               | none ↦ goes-on (fallTo (M .next (it .place)) fall (push jumps w)) (entered K it post b)
             ]

@@ -28,7 +28,8 @@ use Rattle.opening.specs.declared.Listed.{Listed}
 use Rattle.opening.specs.Listing.{targetsAt, fallAt, OneListed, fronted, opening, EntryStored, keepAll, AllListed}
 use Rattle.opening.specs.Ready.{Listable}
 use Rattle.demand.specs.Span.{InCode}
-use Rattle.opening.proofs.Fronts.{length-fronted, length-opening, behind, behind-length, behind-fits, behind-words}
+use Rattle.opening.proofs.Fronts.{length-fronted, length-opening, behind, behind-length, behind-fits}
+use Rattle.opening.proofs.Fronts.{behind-words}
 use Rattle.opening.proofs.Storing.{at-most-one}
 
 pub opened-length : {entry words stored : ℕ} {records : List ℕ} → EntryStored entry words stored records → length records ≡ words

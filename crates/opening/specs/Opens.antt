@@ -40,6 +40,6 @@ module _ (S : Script) (span : Span) (lent-records lent-work : ℕ) where
     pub records-laid : records′ ≡ laid S span lent-records
     pub work-cleared : work′ ≡ replicate lent-work 0
 
-  abbrev pub Opens : Opened → (records′ work′ : List ℕ) → Type 0
-  Opens (Ready room) records′ work′ = Readies room records′ work′
-  Opens (Refused answer) records′ work′ = Refuses answer records′ work′
+  abbrev pub OpenedAs : Opened → (records′ work′ : List ℕ) → Type 0
+  OpenedAs (Ready room) records′ work′ = Readies room records′ work′
+  OpenedAs (Refused answer) records′ work′ = Refuses answer records′ work′

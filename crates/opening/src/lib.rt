@@ -11,7 +11,7 @@ ghost use Rattle.code.specs.Width.{widthAt};
 ghost use Rattle.rules.specs.Shapes.{Shape};
 ghost use Rattle.rules.specs.There.{SwitchThere};
 ghost use Rattle.opening.specs.Listing.{targetsAt, fallAt, OneListed, EntryStored, AllListed};
-ghost use Rattle.opening.specs.Opens.{KeysLaid, Opens};
+ghost use Rattle.opening.specs.Opens.{KeysLaid, OpenedAs};
 ghost use Rattle.rules.specs.FromLists.{script};
 ghost use Rattle.opening.specs.Ready.{Listable, Marked, spanOf};
 ghost use Rattle.demand.specs.Span.{InCode};
@@ -230,7 +230,7 @@ pub fn open_span(
     requires { ⌜ Marked (now marks) (now code) ⌝ }
     requires { ⌜ now records ≡ replicate (length (now records)) 0 ⌝ }
     requires { ⌜ now work ≡ replicate (length (now work)) 0 ⌝ }
-    ensures { λ r. ⌜ ((rights : ℕ) (names chains steps : List ℕ) (declared : ℕ) → Opens
+    ensures { λ r. ⌜ ((rights : ℕ) (names chains steps : List ℕ) (declared : ℕ) → OpenedAs
         (script rights names chains steps (now (switches .entry)) (now (cases .entry)) (now (ranges .entry)) (now (code .entry)))
         (spanOf entry end declared) (length (now (records .entry))) (length (now (work .entry)))
         r (now (records .exit)) (now (work .exit))) ⌝ }

@@ -8,6 +8,6 @@ use Rattle.before.specs.Before.{beforeChunks, verdictOf}
 use Rattle.before.specs.Input.{Input}
 use Rattle.before.specs.Memory.{marksAfter}
 
-pub record Told (I : Input) (heights : ℕ) (before : List ℕ) (r : Verdict) (after : List ℕ) : Type 0 where
+pub record SameBefore (I : Input) (heights : ℕ) (before : List ℕ) (r : Verdict) (after : List ℕ) : Type 0 where
   pub verdict : r ≡ verdictOf (beforeChunks I (length before) heights)
   pub marks : after ≡ marksAfter I heights before

@@ -22,11 +22,11 @@ fits pops pushes operands = leb pops operands && ltb (operands - pops + pushes) 
 abbrev pub depths : (operands iterators handlers : ℕ) → Depths
 depths operands iterators handlers = record { operands = operands; iterators = iterators; handlers = handlers }
 
-abbrev pub none : DepthsTold
-none = record { number = 1; operands = 0; iterators = 0; handlers = 0 }
+abbrev pub noDepths : DepthsTold
+noDepths = record { number = 1; operands = 0; iterators = 0; handlers = 0 }
 
 -- number 0 and these depths where a test passes, number 1 and zeros where not
-pub record Told (passes : Bool) (d : Depths) (r : DepthsTold) : Type 0 where
+pub record ToldIf (passes : Bool) (d : Depths) (r : DepthsTold) : Type 0 where
   pub number : r .number ≡ cond passes 0 1
   pub operands : r .operands ≡ cond passes (d .operands) 0
   pub iterators : r .iterators ≡ cond passes (d .iterators) 0
@@ -34,11 +34,11 @@ pub record Told (passes : Bool) (d : Depths) (r : DepthsTold) : Type 0 where
 
 abbrev pub AfterSame : (tag pops pushes operands iterators handlers : ℕ) → DepthsTold → Type 0
 AfterSame tag pops pushes operands iterators handlers r =
-    Told (holds tag iterators handlers && fits pops pushes operands) (afterOf tag pops pushes (depths operands iterators handlers)) r
+    ToldIf (holds tag iterators handlers && fits pops pushes operands) (afterOf tag pops pushes (depths operands iterators handlers)) r
 
 abbrev pub JumpedSame : (tag operands iterators handlers operandsAfter iteratorsAfter handlersAfter : ℕ) → DepthsTold → Type 0
 JumpedSame tag operands iterators handlers operandsAfter iteratorsAfter handlersAfter r =
-    Told (holds tag iterators handlers)
+    ToldIf (holds tag iterators handlers)
     (jumpedOf tag (depths operands iterators handlers) (depths operandsAfter iteratorsAfter handlersAfter)) r
 
 pub record NeededSame (tag : ℕ) (r : NeededTold) : Type 0 where

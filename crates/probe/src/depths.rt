@@ -2,7 +2,7 @@
 // for; number 1 and zeros where not.
 ghost use mathlib.Core.Path.{_≡_};
 ghost use Rattle.rules.specs.Shapes.{Flow};
-ghost use Rattle.probe.specs.Depths.{holds, fits, none, AfterSame, JumpedSame, NeededSame};
+ghost use Rattle.probe.specs.Depths.{holds, fits, noDepths, AfterSame, JumpedSame, NeededSame};
 use answer::Depths;
 use rules::Effect;
 use rules::edges;
@@ -61,7 +61,7 @@ fn has_operands(pops: u32, pushes: u32, operands: u32) -> bool
 
 // What is told where the depths are not such as the rules ask for.
 fn nothing() -> DepthsTold
-    ensures { λ r. ⌜ r ≡ none ⌝ }
+    ensures { λ r. ⌜ r ≡ noDepths ⌝ }
 {
     DepthsTold {
         number: 1,

@@ -5,7 +5,7 @@ ghost use lib.ListN.{length, replicate};
 ghost use Rattle.code.specs.Numbers.{numberAt};
 ghost use Rattle.code.specs.Width.{toldAt};
 ghost use Rattle.listing.specs.Listing.{listedAt};
-ghost use Rattle.marks.specs.Marks.{bitAt, marked, total};
+ghost use Rattle.marks.specs.Marks.{bitAt};
 ghost use Rattle.probe.specs.Same.{SameTold, SameListed, SetStart, countOf};
 use code::Number16;
 use code::Number32;

@@ -17,7 +17,7 @@ use Rattle.code.specs.Width.{widthAt}
 use Rattle.pools.specs.Pools.{chainAt}
 use Rattle.rules.specs.Acts.{Acts}
 use Rattle.rules.specs.Edges.{falls}
-use Rattle.rules.specs.Effects.{Effect, effects, effect, operandsOf, needs, pops, pushes}
+use Rattle.rules.specs.Effects.{TagEffect, effects, effect, operandsOf, needs, pops, pushes}
 use Rattle.rules.specs.Shapes.{Shape}
 use Rattle.rules.specs.There.{ChainEntry, ChainThere}
 use Rattle.answer.proofs.Apart.{zero≢one}
@@ -57,7 +57,7 @@ module _ (code chains : List ℕ) (p : ℕ) where
   }
 
 -- no tag is in two rows of the effects, so that each row holds of its tags
-pub effect-row : {row : Row Effect} → List·Memᴰ row effects → (tag : ℕ) → among tag (row .tags) ≡ true
+pub effect-row : {row : Row TagEffect} → List·Memᴰ row effects → (tag : ℕ) → among tag (row .tags) ≡ true
     → effect tag ≡ row .says
 unfolding effect once tagsOf
 effect-row = row-holds effects _ tt

@@ -9,7 +9,8 @@ use borrow.Author.Tests.{eqb-true}
 use lib.Dec.{eqb, eqb→eq}
 use lib.ListN.{length, length-append, length-map}
 use Rattle.code.specs.Layout.{among, indexAt, targetAt}
-use Rattle.code.specs.Tags.{RETURN, THROW, SWITCH, JUMP, JUMP-IF-TRUE, JUMP-IF-FALSE, SKIP-IF-NOT-UNIT, ITER-NEXT, PUSH-HANDLER, ITER-NEXT-INDEXED, PUSH-HANDLER-VAR}
+use Rattle.code.specs.Tags.{RETURN, THROW, SWITCH, JUMP, JUMP-IF-TRUE, JUMP-IF-FALSE, SKIP-IF-NOT-UNIT, ITER-NEXT}
+use Rattle.code.specs.Tags.{PUSH-HANDLER, ITER-NEXT-INDEXED, PUSH-HANDLER-VAR}
 use Rattle.code.specs.Width.{widthAt}
 use Rattle.pools.specs.Pools.{switchAt}
 use Rattle.answer.specs.declared.Depths.{Depths}

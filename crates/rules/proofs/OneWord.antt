@@ -11,8 +11,7 @@ use lib.Dec.{eqb, leb, ltb, eqb→eq}
 use lib.ListN.{replicate}
 use Rattle.code.proofs.Table.{each}
 use Rattle.code.specs.Layout.{among, indexAt}
-use Rattle.code.specs.Tags.{ITER-INIT, ITER-DROP, POP-HANDLER, SWITCH, CHAIN}
-use Rattle.code.specs.Tags.{iterNexts, pushHandlers}
+use Rattle.code.specs.Tags.{ITER-INIT, ITER-DROP, POP-HANDLER, SWITCH, CHAIN, iterNexts, pushHandlers}
 use Rattle.pools.specs.Pools.{chainAt}
 use Rattle.rules.specs.Asks.{qualifiable, asking, Asks}
 use Rattle.rules.specs.Edges.{jumping, falls, plain}

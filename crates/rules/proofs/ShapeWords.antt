@@ -8,8 +8,7 @@ use lib.Dec.{T, eqb, leb, ltb, eqb→eq, ltb→lt}
 use lib.ListN.{getD, replicate}
 use Rattle.code.proofs.Table.{each}
 use Rattle.code.specs.Layout.{layout, among}
-use Rattle.code.specs.Tags.{ITER-INIT, ITER-DROP, POP-HANDLER, SWITCH, IMPORT}
-use Rattle.code.specs.Tags.{iterNexts, pushHandlers}
+use Rattle.code.specs.Tags.{ITER-INIT, ITER-DROP, POP-HANDLER, SWITCH, IMPORT, iterNexts, pushHandlers}
 use Rattle.code.specs.Width.{widthOf}
 use Rattle.rules.specs.Edges.{jumping, falls, plain}
 use Rattle.rules.specs.Effects.{effect}

@@ -32,16 +32,16 @@ abbrev pub 2n : Amount
 abbrev pub k : Amount
 k = record { fixed = 0; perN = 0; perK = 1 }
 
-pub record Effect : Type 0 where
+pub record TagEffect : Type 0 where
   pub needs : Amount
   pub pops : Amount
   pub pushes : ℕ
 
 infix 20 _/_/_
-abbrev pub _/_/_ : Amount → Amount → ℕ → Effect
+abbrev pub _/_/_ : Amount → Amount → ℕ → TagEffect
 needs / pops / pushes = record { needs = needs; pops = pops; pushes = pushes }
 
-abbrev pub effects : List (Row Effect)
+abbrev pub effects : List (Row TagEffect)
 effects =
     (just 0 / just 0 / 1 for UNIT ∷ FALSE ∷ TRUE ∷ loads ++ MAKE-CLOSURE ∷ INTERPOLATE-START ∷ iterNexts)
     ∷ (just 1 / just 1 / 0 for POP ∷ stores ++ declares ++ assigns ++ IMPORT ∷ RETURN ∷ THROW ∷ SWITCH ∷ ITER-INIT ∷
@@ -57,7 +57,7 @@ effects =
     ∷ []
 
 -- all others 0/0/0
-unfoldable pub effect : ℕ → Effect
+unfoldable pub effect : ℕ → TagEffect
 unfolding lookUp among
 effect tag = lookUp effects (just 0 / just 0 / 0) tag
 

@@ -40,8 +40,8 @@ pub data Need : Type 0 where
   chained : Need
 
 -- in the order of `required_caps`
-abbrev pub needs : List (Row Need)
-needs =
+abbrev pub rightsByTag : List (Row Need)
+rightsByTag =
     (chained for CHAIN ∷ [])
     ∷ (fixed bit.FN-PTR for MAKE-FN-PTR ∷ MAKE-CLOSURE ∷ callFnPtrs)
     ∷ (fixed (bitOr bit.FN-PTR bit.CURRYING) for CURRY ∷ [])
@@ -58,9 +58,9 @@ needs =
     ∷ []
 
 -- all others need none
-unfoldable pub need : ℕ → Need
+unfoldable pub rightsOfTag : ℕ → Need
 unfolding lookUp among
-need tag = lookUp needs (fixed 0) tag
+rightsOfTag tag = lookUp rightsByTag (fixed 0) tag
 
 -- ---- of the instruction at a place
 
@@ -72,9 +72,9 @@ comesTo name chain chained = chain
 
 module _ (code names chains steps : List ℕ) (p : ℕ) where
   unfoldable pub required : ℕ
-  unfolding need comesTo
+  unfolding rightsOfTag comesTo
   required =
-      comesTo (ofName names (indexAt code p)) (ofChain steps (chainAt chains (indexAt code p))) (need (tagAt code p))
+      comesTo (ofName names (indexAt code p)) (ofChain steps (chainAt chains (indexAt code p))) (rightsOfTag (tagAt code p))
 
 -- what is needed of a word of rights and is not in it
 unfoldable pub lacking : (needed rights : ℕ) → ℕ

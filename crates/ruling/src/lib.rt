@@ -18,7 +18,7 @@ ghost use Rattle.rules.specs.Edges.{targetsOf};
 ghost use Rattle.demand.specs.Rule.{needsTest, judge};
 ghost use Rattle.rules.specs.Shapes.{Shape, Flow};
 ghost use Rattle.rules.specs.There.{NameThere, ChainThere, SwitchThere, HeldBy};
-ghost use Rattle.machine.specs.Walk.{firstBad};
+ghost use Rattle.machine.specs.Walk.{firstBadJump};
 ghost use Rattle.answer.specs.Answer.{told};
 ghost use Rattle.rules.specs.FromLists.{script};
 ghost use Rattle.ruling.specs.Ruling.{leaving, Settles, settled, jumpTest, ruled};
@@ -194,7 +194,7 @@ pub fn check_jumps(
     requires { ⌜ count ≡ length (targetsOf (now code) (now switches) (now cases) (now ranges) at) ⌝ }
     requires { ⌜ Holds (now marks) (starts (now code)) ⌝ }
     ensures { λ r. ⌜ ((rights : ℕ) (names chains steps : List ℕ) (declared : ℕ) (d : Depths)
-        → told r ≡ firstBad
+        → told r ≡ firstBadJump
         (judge
         (script rights names chains steps (now (switches .entry)) (now (cases .entry)) (now (ranges .entry)) (now (code .entry)))
         (record { entry = entry; end = end; declared = declared }) at)

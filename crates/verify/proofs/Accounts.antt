@@ -24,8 +24,7 @@ use Rattle.answer.specs.declared.Answer.{Answer}
 use Rattle.answer.specs.declared.Answer.the-variants.{Accepted}
 use Rattle.answer.specs.declared.verdict.Verdict.{Verdict}
 use Rattle.rules.specs.Script.{Script}
-use Rattle.demand.specs.Span.{Span}
-use Rattle.demand.specs.Span.{chunkAt}
+use Rattle.demand.specs.Span.{Span, chunkAt}
 use Rattle.verify.specs.Accounts.{sumBelow, Measured, Filled, Accounted}
 use Rattle.verify.specs.Call.{Memory, verdictOn, startBits, afterChunks, afterLateTests, afterEarlyTests, result}
 use Rattle.verify.specs.Demand.{ComesToChunks}

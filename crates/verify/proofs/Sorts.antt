@@ -9,7 +9,8 @@ use Prim.Native.Nat.{ℕ, _≤_, _<_}
 use native.Mathlib.Omega.{arith}
 use lib.Dec.{ltb, leb, eqb}
 use lib.ListN.{length}
-use Rattle.before.specs.Before.{Test, first, limitsTest, tablesTest, roomTest, rightsTest, constantsTest, functionTest, widthTest, indicesTest, codeTest, earlyTests, lateTests}
+use Rattle.before.specs.Before.{Test, first, limitsTest, tablesTest, roomTest, rightsTest, constantsTest, functionTest}
+use Rattle.before.specs.Before.{widthTest, indicesTest, codeTest, earlyTests, lateTests}
 use Rattle.before.proofs.Pass.{code-on, code-stop}
 use Rattle.code.specs.Width.{widthOf}
 use Rattle.indices.specs.Indices as reference
@@ -19,7 +20,8 @@ use Rattle.listing.proofs.WalkLaws.{from-end}
 use Rattle.pools.specs.declared.limits.Sizes.{Sizes}
 use Rattle.pools.specs.Sizes.{firstExceeded}
 use Rattle.pools.specs.Tables.{firstBad}
-use Rattle.demand.specs.Refusals.{Real, lacks-rights, leaves, splits, disagrees, underflows, runs-off, no-iterator, no-handler, Exceeds}
+use Rattle.demand.specs.Refusals.{Real, lacks-rights, leaves, splits, disagrees, underflows, runs-off, no-iterator}
+use Rattle.demand.specs.Refusals.{no-handler, Exceeds}
 use Rattle.rules.specs.Rights.{lacking}
 use Rattle.rules.specs.Script.{Script}
 use Rattle.demand.specs.Span.{Span}

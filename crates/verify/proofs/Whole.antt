@@ -29,22 +29,21 @@ use Rattle.answer.specs.declared.Outcome.{Outcome}
 use Rattle.answer.specs.declared.Outcome.the-variants.{Passed, Refused}
 use Rattle.answer.specs.declared.verdict.Verdict.{Verdict}
 use Rattle.code.specs.Layout.{among}
-use Rattle.demand.specs.Span.{T, E, chunkStarts}
+use Rattle.demand.specs.Span.{T, E, chunkStarts, Span}
 use Rattle.rules.specs.Edges.{degree, next, targets}
 use Rattle.machine.specs.Machine.{Machine}
 use Rattle.demand.specs.Rule.{rule, judge, allTargets, machine}
 use Rattle.machine.specs.Walk.{walk, log}
 use Rattle.rules.specs.Script.{Script}
 use Rattle.rules.specs.FromLists.{script}
-use Rattle.demand.specs.Span.{Span}
 use Rattle.answer.proofs.Apart.{zero≢one}
 use Rattle.judging.specs.Judging.{judgeAll}
 use Rattle.judging.specs.Judges.{Judges}
 use Rattle.judging.specs.declared.Judgement.{Judgement}
 use Rattle.judging.specs.declared.Judgement.the-variants.{Passed as AllPass, Refused as Failed}
-use Rattle.verify.specs.Call.{Memory, verdictOn, marksOn, startBits}
+use Rattle.verify.specs.Call.{Memory, verdictOn, marksOn, startBits, afterChunks, afterLateTests, afterEarlyTests}
+use Rattle.verify.specs.Call.{result, Calls}
 use Rattle.verify.specs.Stages.{BothClear}
-use Rattle.verify.specs.Call.{afterChunks, afterLateTests, afterEarlyTests, result, Calls}
 use Rattle.verify.specs.Demand.{ComesToChunks}
 use Rattle.verify.proofs.Accounts.{accounted}
 use Rattle.judging.proofs.Chain.{judge-passes, judge-fails}

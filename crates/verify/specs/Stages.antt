@@ -79,7 +79,7 @@ Few (Going instructions reached taken) chunks = (reached ≤ chunks * mostReache
 Few (Ended verdict) chunks = Unit {0}
 
 -- what a call for one chunk builds on
-pub record Asks (S : Script) (number : ℕ) (state : State) (marks heights records work : List ℕ) : Type 0 where
+pub record ReadyForChunk (S : Script) (number : ℕ) (state : State) (marks heights records work : List ℕ) : Type 0 where
   pub ready : Ready S
   pub marked : Marked marks (S .code)
   pub records-zero : records ≡ replicate (length records) 0

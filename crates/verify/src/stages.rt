@@ -3,8 +3,7 @@ ghost use mathlib.Core.Path.{_≡_};
 ghost use lib.ListN.{length};
 ghost use Rattle.before.specs.Input.{input};
 ghost use Rattle.rules.specs.FromLists.{script};
-ghost use Rattle.verify.specs.Stages.{BothClear};
-ghost use Rattle.verify.specs.Stages.{Begins, Fits, Advances, Asks, Takes, goesOn, finished};
+ghost use Rattle.verify.specs.Stages.{BothClear, Begins, Fits, Advances, ReadyForChunk, Takes, goesOn, finished};
 use judging::Judgement;
 use answer::Answer;
 use answer::Outcome;
@@ -138,7 +137,7 @@ pub fn take_span(
     records: &mut [u32],
     work: &mut [u32],
 ) -> State
-    requires { ⌜ Asks
+    requires { ⌜ ReadyForChunk
         (script rights (now names) (now chains) (now steps) (now switches) (now cases) (now ranges) (now code))
         number state (now marks) (now heights) (now records) (now work) ⌝ }
     ensures { λ r. ⌜ Takes

@@ -43,10 +43,10 @@ pub record NoneBack (h : Hand) (work : List ℕ) (last : Counts) (work′ : List
   pub counts : last ≡ countsOf h
   pub words : work′ ≡ work
 
-abbrev pub Back : (keys : List ℕ) → Hand → (work : List ℕ) → Turn → (work′ : List ℕ) → Type 0
-Back keys h work (Next next) work′ = TakenBack keys h work next work′
-Back keys h work (Done last) work′ = NoneBack h work last work′
-Back keys h work (Refused a) work′ = ⊥
+abbrev pub BackOrDone : (keys : List ℕ) → Hand → (work : List ℕ) → Turn → (work′ : List ℕ) → Type 0
+BackOrDone keys h work (Next next) work′ = TakenBack keys h work next work′
+BackOrDone keys h work (Done last) work′ = NoneBack h work last work′
+BackOrDone keys h work (Refused a) work′ = ⊥
 
 -- the words with the depths in hand noted, where the place is a key
 abbrev pub noted : Room → Hand → List ℕ → List ℕ
@@ -55,7 +55,7 @@ noted room h records =
 
 -- what leaving an instruction builds on: room for its note and its jumps, a pointer that is not past the next place, and numbers
 -- that fit
-pub record Leaves (room : Room) (h : Hand) (next : ℕ) (targets records work : List ℕ) : Type 0 where
+pub record RoomToLeave (room : Room) (h : Hand) (next : ℕ) (targets records work : List ℕ) : Type 0 where
   pub keys-room : room .keys ≤ length records
   pub notes-room : room .base + room .keys * 3 ≤ length records
   pub keys-behind : room .keys ≤ room .base
@@ -68,11 +68,11 @@ pub record Leaves (room : Room) (h : Hand) (next : ℕ) (targets records work : 
   pub taken-fits : h .taken + 1 < 2 ^ 64
 
 -- what it comes to: the depths noted, the jumps pushed, and the next place in hand or an item taken back
-pub record Left (room : Room) (h : Hand) (edges : Edges) (targets records work : List ℕ) (r : Turn) (records′ work′ : List ℕ) : Type 0 where
+pub record InstructionLeft (room : Room) (h : Hand) (edges : Edges) (targets records work : List ℕ) (r : Turn) (records′ work′ : List ℕ) : Type 0 where
   pub words : records′ ≡ noted room h records
   pub goes : edges .falls ≡ true
       → (r ≡ Next (fallen (take (room .keys) records) (enteredHand h (edges .after .operands) (h .waiting + length targets)) (edges .next) (edges .after)))
       × (work′ ≡ putAll work (h .waiting) (jumpsTo (edges .jumped) targets))
   pub back : edges .falls ≡ false
-      → Back (take (room .keys) records) (enteredHand h (edges .after .operands) (h .waiting + length targets))
+      → BackOrDone (take (room .keys) records) (enteredHand h (edges .after .operands) (h .waiting + length targets))
       (putAll work (h .waiting) (jumpsTo (edges .jumped) targets)) r work′

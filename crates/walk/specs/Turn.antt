@@ -25,40 +25,40 @@ use Rattle.walk.specs.Hand.{itemOf, bookWith, bookOf}
 use Rattle.walk.specs.Records.{seenStore}
 
 -- the chunk of the code's struct; a walk does not look at the declared height
-abbrev pub spanOf : Room → Span
-spanOf room = record { entry = room .entry; end = room .end; declared = 0 }
+abbrev pub roomSpan : Room → Span
+roomSpan room = record { entry = room .entry; end = room .end; declared = 0 }
 
 module _ (S : Script) (room : Room) where
   -- one turn of the walk from the item in hand
   abbrev pub turnOf : Hand → (records work : List ℕ) → definition.Turn Answer (List ℕ)
   turnOf h records work =
-      turn (machine S (spanOf room)) (seenStore S (spanOf room)) (itemOf h) (items work (h .waiting)) (bookOf h records)
+      turn (machine S (roomSpan room)) (seenStore S (roomSpan room)) (itemOf h) (items work (h .waiting)) (bookOf h records)
 
   -- the walk has come to the item in hand, with these words of records and of work
-  pub record Going (h : Hand) (records work : List ℕ) : Type 0 where
-    pub ran : walk (machine S (spanOf room)) (seenStore S (spanOf room)) (h .taken) (laid S (spanOf room) (length records))
+  pub record WalkAt (h : Hand) (records work : List ℕ) : Type 0 where
+    pub ran : walk (machine S (roomSpan room)) (seenStore S (roomSpan room)) (h .taken) (laid S (roomSpan room) (length records))
         ≡ unfinished (itemOf h ∷ items work (h .waiting)) (bookOf h records)
-    pub slot : h .slot ≡ below (keys S (spanOf room)) (h .place)
+    pub slot : h .slot ≡ below (keys S (roomSpan room)) (h .place)
     pub clear : Clear work (h .waiting)
 
   -- what taking an item builds on: all that comes before the walk, and the walk so far
   pub record AtItem (h : Hand) (marks records work : List ℕ) : Type 0 where
     pub ready : Ready S
     pub marked : Marked marks (S .code)
-    pub before : BeforeWalk S (spanOf room) (length records) (length work)
-    pub base : room .base ≡ 1 + T S (spanOf room)
-    pub keyed : room .keys ≡ length (keys S (spanOf room))
-    pub going : Going h records work
+    pub before : BeforeWalk S (roomSpan room) (length records) (length work)
+    pub base : room .base ≡ 1 + T S (roomSpan room)
+    pub keyed : room .keys ≡ length (keys S (roomSpan room))
+    pub going : WalkAt h records work
 
   -- the item is before the end, and its place was not seen
   pub record Unseen (h : Hand) (records : List ℕ) : Type 0 where
     pub below-end : h .place < room .end
-    pub unseen : seen (machine S (spanOf room)) (seenStore S (spanOf room)) (h .place) records ≡ none
+    pub unseen : seen (machine S (roomSpan room)) (seenStore S (roomSpan room)) (h .place) records ≡ none
 
   -- what a turn comes to: the next item in hand, with what waits and what is noted in the words,
   pub record GoesOn (t : definition.Turn Answer (List ℕ)) (h : Hand) (records work : List ℕ) : Type 0 where
     pub turned : t ≡ goes-on (itemOf h ∷ items work (h .waiting)) (bookOf h records)
-    pub slot : h .slot ≡ below (keys S (spanOf room)) (h .place)
+    pub slot : h .slot ≡ below (keys S (roomSpan room)) (h .place)
     pub clear : Clear work (h .waiting)
 
   -- no item is left,
@@ -72,10 +72,10 @@ module _ (S : Script) (room : Room) where
     pub same-records : records′ ≡ records
     pub same-work : work′ ≡ work
 
-  abbrev pub Comes : definition.Turn Answer (List ℕ) → (records work : List ℕ) → Turn → (records′ work′ : List ℕ) → Type 0
-  Comes t records work (Next next) records′ work′ = GoesOn t next records′ work′
-  Comes t records work (Done last) records′ work′ = Ends t last records′ work′
-  Comes t records work (Refused a) records′ work′ = Stops t a records work records′ work′
+  abbrev pub SameTurn : definition.Turn Answer (List ℕ) → (records work : List ℕ) → Turn → (records′ work′ : List ℕ) → Type 0
+  SameTurn t records work (Next next) records′ work′ = GoesOn t next records′ work′
+  SameTurn t records work (Done last) records′ work′ = Ends t last records′ work′
+  SameTurn t records work (Refused a) records′ work′ = Stops t a records work records′ work′
 
-  abbrev pub Took : Hand → (records work : List ℕ) → Turn → (records′ work′ : List ℕ) → Type 0
-  Took h records work = Comes (turnOf h records work) records work
+  abbrev pub ItemTaken : Hand → (records work : List ℕ) → Turn → (records′ work′ : List ℕ) → Type 0
+  ItemTaken h records work = SameTurn (turnOf h records work) records work

@@ -11,17 +11,10 @@ ghost use Rattle.rules.specs.Edges.{targetsOf};
 ghost use Rattle.rules.specs.There.{SwitchThere};
 ghost use Rattle.words.specs.Seen.{told, seenAt, noteAt};
 ghost use Rattle.words.specs.Stack.{Clear};
-ghost use Rattle.walk.specs.Leaving.{Left};
-ghost use Rattle.walk.specs.Leaving.{Leaves};
-ghost use Rattle.walk.specs.Leaving.{Back};
-ghost use Rattle.walk.specs.Leaving.{Pushed};
-ghost use Rattle.walk.specs.Hand.{fallen};
+ghost use Rattle.walk.specs.Leaving.{InstructionLeft, RoomToLeave, BackOrDone, Pushed};
+ghost use Rattle.walk.specs.Hand.{fallen, enteredHand, droppedHand};
 ghost use Rattle.rules.specs.FromLists.{script};
-ghost use Rattle.walk.specs.Turn.{Took};
-ghost use Rattle.walk.specs.Turn.{Unseen};
-ghost use Rattle.walk.specs.Turn.{AtItem};
-ghost use Rattle.walk.specs.Hand.{enteredHand};
-ghost use Rattle.walk.specs.Hand.{droppedHand};
+ghost use Rattle.walk.specs.Turn.{ItemTaken, Unseen, AtItem};
 use crate::Counts;
 use crate::Hand;
 use crate::Turn;
@@ -127,7 +120,7 @@ fn take_back(hand: Hand, records: &[u32], keys: usize, work: &mut [u32]) -> Turn
     requires { ⌜ Rising (take keys (now records)) ⌝ }
     requires { ⌜ hand .waiting * 4 ≤ length (now work) ⌝ }
     requires { ⌜ Clear (now work) (hand .waiting) ⌝ }
-    ensures { λ r. ⌜ Back (take keys (now (records .entry))) hand (now (work .entry)) r (now (work .exit)) ⌝ }
+    ensures { λ r. ⌜ BackOrDone (take keys (now (records .entry))) hand (now (work .entry)) r (now (work .exit)) ⌝ }
 {
     if hand.waiting == 0 {
         return Turn::Done(Counts {
@@ -217,8 +210,8 @@ fn leave(
     requires { ⌜ 0 < widthAt (now code) (hand .place) ⌝ }
     requires { ⌜ SwitchThere (now code) (now switches) (now cases) (now ranges) (hand .place) ⌝ }
     requires { ⌜ count ≡ length (targetsOf (now code) (now switches) (now cases) (now ranges) (hand .place)) ⌝ }
-    requires { ⌜ Leaves room hand (edges .next) (targetsOf (now code) (now switches) (now cases) (now ranges) (hand .place)) (now records) (now work) ⌝ }
-    ensures { λ r. ⌜ Left room hand edges (targetsOf (now (code .entry)) (now (switches .entry)) (now (cases .entry)) (now (ranges .entry)) (hand .place))
+    requires { ⌜ RoomToLeave room hand (edges .next) (targetsOf (now code) (now switches) (now cases) (now ranges) (hand .place)) (now records) (now work) ⌝ }
+    ensures { λ r. ⌜ InstructionLeft room hand edges (targetsOf (now (code .entry)) (now (switches .entry)) (now (cases .entry)) (now (ranges .entry)) (hand .place))
         (now (records .entry)) (now (work .entry)) r (now (records .exit)) (now (work .exit)) ⌝ }
 {
     let after = edges.after;
@@ -265,7 +258,7 @@ fn enter(
         room hand (now marks) (now records) (now work) ⌝ }
     requires { ⌜ Unseen (script rights (now names) (now chains) (now steps) (now switches) (now cases) (now ranges) (now code))
         room hand (now records) ⌝ }
-    ensures { λ r. ⌜ Took
+    ensures { λ r. ⌜ ItemTaken
         (script rights (now (names .entry)) (now (chains .entry)) (now (steps .entry)) (now (switches .entry)) (now (cases .entry))
         (now (ranges .entry)) (now (code .entry)))
         room hand (now (records .entry)) (now (work .entry)) r (now (records .exit)) (now (work .exit)) ⌝ }
@@ -338,7 +331,7 @@ pub fn take_item(
 ) -> Turn
     requires { ⌜ AtItem (script rights (now names) (now chains) (now steps) (now switches) (now cases) (now ranges) (now code))
         room hand (now marks) (now records) (now work) ⌝ }
-    ensures { λ r. ⌜ Took
+    ensures { λ r. ⌜ ItemTaken
         (script rights (now (names .entry)) (now (chains .entry)) (now (steps .entry)) (now (switches .entry)) (now (cases .entry))
         (now (ranges .entry)) (now (code .entry)))
         room hand (now (records .entry)) (now (work .entry)) r (now (records .exit)) (now (work .exit)) ⌝ }

@@ -12,9 +12,8 @@ use Rattle.rules.specs.FromLists.{script}
 use Rattle.words.specs.Seen.{told}
 use Rattle.walk.specs.declared.Hand.{Hand}
 use Rattle.walk.specs.Records.{seenStore}
-use Rattle.walk.specs.Turn.{AtItem}
-use Rattle.walk.specs.Turn.{spanOf}
-use Rattle.walk.proofs.Took.{stopped, off-turn, dropped-took, clash-turn}
+use Rattle.walk.specs.Turn.{AtItem, roomSpan}
+use Rattle.walk.proofs.Taking.{stopped, off-turn, dropped-took, clash-turn}
 use Rattle.walk.proofs.Turns.{rises, keys-room, notes-room, waits-room, taken-fits, seen-so}
 use Rattle.walk.proofs.item.take_item.Statement.{statement}
 use Rattle.walk.proofs.item.take_item.Tie as tie
@@ -40,7 +39,7 @@ module _ (p : tie.Else1) where
 
 -- what was seen at the place in hand
 module _ (p : tie.After-seen-at) where
-  was-seen : told (p .seen-at .result) ≡ seen (machine (S (p .before .before)) (spanOf (p .before .before .before .before .before .before .before .before .before .before .before .before .before .before .before .args .room))) (seenStore (S (p .before .before)) (spanOf (p .before .before .before .before .before .before .before .before .before .before .before .before .before .before .before .args .room))) (h (p .before .before) .place) (now (p .before .before .before .before .before .before .before .before .before .before .before .before .before .before .before .args .records))
+  was-seen : told (p .seen-at .result) ≡ seen (machine (S (p .before .before)) (roomSpan (p .before .before .before .before .before .before .before .before .before .before .before .before .before .before .before .args .room))) (seenStore (S (p .before .before)) (roomSpan (p .before .before .before .before .before .before .before .before .before .before .before .before .before .before .before .args .room))) (h (p .before .before) .place) (now (p .before .before .before .before .before .before .before .before .before .before .before .before .before .before .before .args .records))
   was-seen = p .seen-at .ensures ∙ seen-so _ _ _ _ _ _ (A (p .before .before))
 
 returns : tie.Need-returns
