@@ -18,29 +18,13 @@ noChunk = 4294967295
 
 -- a refusal counts nothing
 abbrev pub refusal : (kind chunk at p q : ℕ) → Verdict
-refusal kind chunk at p q = record {
-  kind = kind;
-  chunk = chunk;
-  at = at;
-  p = p;
-  q = q;
-  instructions = 0;
-  reached = 0;
-  taken = 0;
-}
+refusal kind chunk at p q =
+    record { kind = kind; chunk = chunk; at = at; p = p; q = q; instructions = 0; reached = 0; taken = 0 }
 
 -- the numbers of an answer about a chunk; `noChunk` where it came before the chunks
 unfoldable pub numbered : (chunk : ℕ) → Answer → Verdict
-numbered chunk (Accepted instructions reached taken) = record {
-  kind = 0;
-  chunk = noChunk;
-  at = 0;
-  p = 0;
-  q = 0;
-  instructions = instructions;
-  reached = reached;
-  taken = taken;
-}
+numbered chunk (Accepted n reached taken) =
+    record { kind = 0; chunk = noChunk; at = 0; p = 0; q = 0; instructions = n; reached = reached; taken = taken }
 numbered chunk (TooLarge limit) = refusal 1 chunk 0 limit 0
 numbered chunk (BadTable table entry) = refusal 2 chunk 0 table entry
 numbered chunk (NoRoom needed buffer) = refusal 3 chunk 0 needed buffer

@@ -1,5 +1,5 @@
--- Depths: how many operands, iterators and handlers there are. An item: a place that control comes to, with the depths there.
--- Document 01: "The walk starts with (entry, 0, 0, 0)"; "dropped if all three depths agree, else 11".
+-- Depths: how many operands, iterators and handlers there are. An item: a place that control comes to, with the depths
+-- there. Document 01: "The walk starts with (entry, 0, 0, 0)"; "dropped if all three depths agree, else 11".
 use mathlib.Core.Bool.{Bool, _&&_}
 use Prim.Native.Nat.{ℕ}
 use lib.Dec.{eqb}

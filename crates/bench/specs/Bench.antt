@@ -1,5 +1,6 @@
--- Document 01's bench cases as one table: "Code from 0, one chunk over all of it, declared 9, no rights or pools, unless said."
--- Each row has its input and the whole outcome in the document's numbers: the verdict, and what heights and marks hold after it.
+-- Document 01's bench cases as one table: "Code from 0, one chunk over all of it, declared 9, no rights or pools,
+-- unless said." Each row has its input and the whole outcome in the document's numbers: the verdict, and what heights
+-- and marks hold after it.
 use mathlib.Core.List.{List, [], _∷_, _++_}
 use Prim.Native.Nat.{ℕ, _+_, _^_}
 use lib.ListN.{length, replicate}
@@ -42,7 +43,8 @@ word (start ∷ starts) = 2 ^ start + word starts
 
 -- the memory after the first store: these starts' bits, these heights, and nothing in records and work
 abbrev pub left : (starts heights : List ℕ) → Memory
-left starts heights = record { marks = word starts ∷ 0 ∷ []; heights = heights; records = replicate 16 0; work = replicate 40 0 }
+left starts heights =
+    record { marks = word starts ∷ 0 ∷ []; heights = heights; records = replicate 16 0; work = replicate 40 0 }
 
 -- ---- the rows
 
@@ -66,7 +68,16 @@ expected row = row .outcome
 -- accepted, with these starts and heights
 abbrev pub acceptedCall : (instructions reached taken : ℕ) (starts heights : List ℕ) → Result
 acceptedCall instructions reached taken starts heights = record {
-  verdict = record { kind = 0; chunk = 4294967295; at = 0; p = 0; q = 0; instructions = instructions; reached = reached; taken = taken };
+  verdict = record {
+    kind = 0;
+    chunk = 4294967295;
+    at = 0;
+    p = 0;
+    q = 0;
+    instructions = instructions;
+    reached = reached;
+    taken = taken;
+  };
   memory = left starts heights;
 }
 

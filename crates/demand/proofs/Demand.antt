@@ -23,13 +23,11 @@ use Rattle.demand.specs.BeforeWalk.{WalkAccepts, redeclared, BeforeWalk}
 use Rattle.answer.specs.Depths.{Item}
 use Rattle.demand.specs.Span.{T, E, chunkStarts, Span}
 use Rattle.rules.specs.Edges.{degree}
-use Rattle.demand.specs.Measures.{Measures}
-use Rattle.demand.specs.Paths.{DepthOnPath, at, just-after}
+use Rattle.demand.specs.Writing.{Measures, just-after, at, DepthOnPath, Writing}
 use Rattle.demand.specs.Refusals.{Real, Exceeds}
 use Rattle.demand.specs.Rule.{rule, judge, machine}
 use Rattle.rules.specs.Script.{Script}
 use Rattle.machine.specs.Walk.{Book, Run, accepted, refused, unfinished, Log, log, walk}
-use Rattle.demand.specs.Writing.{Writing}
 use Rattle.machine.proofs.Ends.{Bounded, ends, unfinished-bounded, accepted-bounded}
 use Rattle.machine.proofs.Exactly.{Accepts, exactly}
 use Rattle.demand.proofs.Keeps.{keeps-laws}

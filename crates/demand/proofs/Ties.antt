@@ -21,7 +21,7 @@ use Rattle.answer.specs.Depths.{Item}
 use Rattle.rules.specs.Edges.{after, edges, falls, plain, targets, next}
 use Rattle.machine.specs.Lists.{_∈_}
 use Rattle.machine.specs.Machine.{Ruling, denies, gives, fallTo}
-use Rattle.demand.specs.Paths as paths
+use Rattle.demand.specs.Writing as paths
 use Rattle.rules.specs.Needs.{Able}
 use Rattle.demand.specs.Refusals as refusals
 use Rattle.demand.specs.Refusals.{Met, lacks, operandsNeeded, Real, lacks-rights, leaves, splits, disagrees}

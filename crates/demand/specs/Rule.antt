@@ -1,7 +1,7 @@
--- The rule of one instruction at given depths, and the machine of a chunk. Document 01, "Order of the tests": "rights (kind 4,
--- p only what lacks); 12; 15 for ITER_DROP, 16 for POP_HANDLER; then edges, each target tested for 9, then 10, and the
--- fall-through pushed last. ITER_NEXT* tests 15 before its target [...]. A plain instruction whose successor is not before the
--- end gives 13."
+-- The rule of one instruction at given depths, and the machine of a chunk. Document 01, "Order of the tests": "rights
+-- (kind 4, p only what lacks); 12; 15 for ITER_DROP, 16 for POP_HANDLER; then edges, each target tested for 9, then 10,
+-- and the fall-through pushed last. ITER_NEXT* tests 15 before its target [...]. A plain instruction whose successor is
+-- not before the end gives 13."
 use mathlib.Core.Bool.{_&&_, _||_, cond}
 use mathlib.Core.List.{List, [], _∷_, _++_, map}
 use mathlib.Core.Option.{Option, none, some}

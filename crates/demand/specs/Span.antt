@@ -1,6 +1,7 @@
--- A chunk's span in the code, what starts in it, and how many targets and edges that has. Document 01, "Modules": "spans: entry,
--- end, declared height"; "Flat pools and sizes": "T is the targets named by instructions that start in the chunk, repeats counted, E
--- their outgoing edges"; "Order of the tests": "7; 8 if the entry is neither a start nor the code's length".
+-- A chunk's span in the code, what starts in it, and how many targets and edges that has. Document 01, "Modules":
+-- "spans: entry, end, declared height"; "Flat pools and sizes": "T is the targets named by instructions that start in
+-- the chunk, repeats counted, E their outgoing edges"; "Order of the tests": "7; 8 if the entry is neither a start nor
+-- the code's length".
 use mathlib.Core.List.{List}
 use mathlib.Core.Bool.{true, _||_}
 use mathlib.Core.Path.{_≡_}

@@ -1,5 +1,5 @@
--- The spans of a lent list of chunk records. Document 01, "Flat pools and sizes": "Chunk spans come as a lent list of records:
--- entry, end, declared height (u16)."
+-- The spans of a lent list of chunk records. Document 01, "Flat pools and sizes": "Chunk spans come as a lent list of
+-- records: entry, end, declared height (u16)."
 use mathlib.Core.List.{List, [], _∷_}
 use Rattle.demand.specs.Span.{Span}
 use Rattle.grain.specs.declared.Chunk.{Chunk}

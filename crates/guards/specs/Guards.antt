@@ -1,5 +1,6 @@
--- Whether an instruction can be asked about: it has its width, and what it names is there. Document 01, "Order of the tests": the
--- checks of width, indices and tables that stand before the chunks establish it of every instruction of the code.
+-- Whether an instruction can be asked about: it has its width, and what it names is there. Document 01, "Order of the
+-- tests": the checks of width, indices and tables that stand before the chunks establish it of every instruction of the
+-- code.
 use mathlib.Core.Bool.{Bool, true, _&&_, cond}
 use mathlib.Core.List.{List}
 use Prim.Native.Nat.{ℕ, _+_}
@@ -42,4 +43,6 @@ module _ (code : List ℕ) (at : ℕ) where
 
 module _ (code : List ℕ) (at : ℕ) (names chains steps switches cases ranges : List ℕ) where
   unfoldable pub isThere : Bool
-  isThere = hasWidth code at && (hasName code at names && (hasChain code at chains steps && hasSwitch code at switches cases ranges))
+  isThere =
+      hasWidth code at && (hasName code at names
+      && (hasChain code at chains steps && hasSwitch code at switches cases ranges))

@@ -1,6 +1,6 @@
--- The chunks judged, upward. Document 01, "Order of the tests": "chunks upward. The first refusal met ends the whole call"; "What
--- comes back": "heights hold a measured height for each chunk before the one refused (all, if accepted), the others untouched";
--- "reached and taken, summed over the chunks".
+-- The chunks judged, upward. Document 01, "Order of the tests": "chunks upward. The first refusal met ends the whole
+-- call"; "What comes back": "heights hold a measured height for each chunk before the one refused (all, if accepted),
+-- the others untouched"; "reached and taken, summed over the chunks".
 use mathlib.Core.List.{List, [], _∷_}
 use Prim.Native.Nat.{ℕ, _+_}
 use lib.ListN.{set}
@@ -15,7 +15,8 @@ pub record JudgedAll : Type 0 where
   pub answer : Judgement
   pub heights : List ℕ
 
--- where so many words of records and of work are lent: from the chunk of a number on, with what the chunks before it come to
+-- where so many words of records and of work are lent: from the chunk of a number on, with what the chunks before it
+-- come to
 module _ (S : Script) (records work : ℕ) where
   unfoldable pub judgeAll : List Span → (number reached taken : ℕ) → (heights : List ℕ) → JudgedAll
   judgeAll [] number reached taken heights = record { answer = Passed reached taken; heights = heights }

@@ -1,5 +1,6 @@
--- What opening a chunk comes to: a refusal, with both buffers cleared, or room for its walk, with its keys in records. Document 01,
--- "Order of the tests": "A chunk: 7; 8 if the entry is neither a start nor the code's length; room for records, work".
+-- What opening a chunk comes to: a refusal, with both buffers cleared, or room for its walk, with its keys in records.
+-- Document 01, "Order of the tests": "A chunk: 7; 8 if the entry is neither a start nor the code's length; room for
+-- records, work".
 use mathlib.Core.List.{List}
 use mathlib.Core.Option.{some}
 use mathlib.Core.Path.{_≡_}

@@ -1,5 +1,5 @@
--- What the exports about depths tell: where the depths are such as the rules ask for, the numbers of the rules; and nothing
--- where not.
+-- What the exports about depths tell: where the depths are such as the rules ask for, the numbers of the rules; and
+-- nothing where not.
 use mathlib.Core.Bool.{Bool, _&&_, cond}
 use mathlib.Core.Path.{_≡_}
 use Prim.Native.Nat.{ℕ, _+_, _-_, _^_}
@@ -13,7 +13,8 @@ use Rattle.probe.specs.declared.depths.NeededTold.{NeededTold}
 -- a tag finds the iterators and handlers that it needs, and one more of each fits a word of 32 bits
 unfoldable pub holds : (tag iterators handlers : ℕ) → Bool
 holds tag iterators handlers =
-    leb (iteratorsNeeded tag) iterators && (leb (handlersNeeded tag) handlers && (ltb (iterators + 1) (2 ^ 32) && ltb (handlers + 1) (2 ^ 32)))
+    leb (iteratorsNeeded tag) iterators && (leb (handlersNeeded tag) handlers
+    && (ltb (iterators + 1) (2 ^ 32) && ltb (handlers + 1) (2 ^ 32)))
 
 -- so many can be popped, and what is left with those that are pushed fits a word
 unfoldable pub fits : (pops pushes operands : ℕ) → Bool
@@ -34,9 +35,11 @@ pub record ToldIf (passes : Bool) (d : Depths) (r : DepthsTold) : Type 0 where
 
 abbrev pub AfterSame : (tag pops pushes operands iterators handlers : ℕ) → DepthsTold → Type 0
 AfterSame tag pops pushes operands iterators handlers r =
-    ToldIf (holds tag iterators handlers && fits pops pushes operands) (afterOf tag pops pushes (depths operands iterators handlers)) r
+    ToldIf (holds tag iterators handlers && fits pops pushes operands)
+    (afterOf tag pops pushes (depths operands iterators handlers)) r
 
-abbrev pub JumpedSame : (tag operands iterators handlers operandsAfter iteratorsAfter handlersAfter : ℕ) → DepthsTold → Type 0
+abbrev pub JumpedSame : (tag operands iterators handlers operandsAfter iteratorsAfter handlersAfter : ℕ)
+    → DepthsTold → Type 0
 JumpedSame tag operands iterators handlers operandsAfter iteratorsAfter handlersAfter r =
     ToldIf (holds tag iterators handlers)
     (jumpedOf tag (depths operands iterators handlers) (depths operandsAfter iteratorsAfter handlersAfter)) r

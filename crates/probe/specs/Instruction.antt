@@ -1,5 +1,5 @@
--- What the exports about one instruction tell: where the instruction has its width and the entries that it names are there,
--- the numbers of the rules; and nothing where not.
+-- What the exports about one instruction tell: where the instruction has its width and the entries that it names are
+-- there, the numbers of the rules; and nothing where not.
 use mathlib.Core.Bool.{Bool, _&&_, cond}
 use mathlib.Core.List.{List}
 use mathlib.Core.Path.{_≡_}

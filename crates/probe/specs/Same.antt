@@ -1,5 +1,5 @@
--- What crosses the boundary are the numbers of a definition, field by field; and what the exports do where the functions
--- behind them ask something of their caller.
+-- What crosses the boundary are the numbers of a definition, field by field; and what the exports do where the
+-- functions behind them ask something of their caller.
 use mathlib.Core.Bool.{cond}
 use mathlib.Core.List.{List}
 use mathlib.Core.Path.{_≡_}

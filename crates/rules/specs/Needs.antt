@@ -1,5 +1,6 @@
--- What an instruction needs besides its operands, and when it has all. The customer's third demand: "each written instruction has the
--- depths and rights it needs"; document 01, "Order of the tests": "15 for ITER_DROP, 16 for POP_HANDLER", "ITER_NEXT* tests 15".
+-- What an instruction needs besides its operands, and when it has all. The customer's third demand: "each written
+-- instruction has the depths and rights it needs"; document 01, "Order of the tests": "15 for ITER_DROP, 16 for
+-- POP_HANDLER", "ITER_NEXT* tests 15".
 use mathlib.Core.Bool.{cond}
 use mathlib.Core.List.{_∷_}
 use mathlib.Core.Path.{_≡_}

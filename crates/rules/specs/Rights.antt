@@ -74,7 +74,8 @@ module _ (code names chains steps : List ℕ) (p : ℕ) where
   unfoldable pub required : ℕ
   unfolding rightsOfTag comesTo
   required =
-      comesTo (ofName names (indexAt code p)) (ofChain steps (chainAt chains (indexAt code p))) (rightsOfTag (tagAt code p))
+      comesTo (ofName names (indexAt code p)) (ofChain steps (chainAt chains (indexAt code p)))
+      (rightsOfTag (tagAt code p))
 
 -- what is needed of a word of rights and is not in it
 unfoldable pub lacking : (needed rights : ℕ) → ℕ

@@ -1,5 +1,5 @@
--- What a chunk is judged by: the script that all chunks share, and the chunk's own span. Document 01, "Modules": "spans:
--- entry, end, declared height".
+-- What a chunk is judged by: the script that all chunks share, and the chunk's own span. Document 01, "Modules":
+-- "spans: entry, end, declared height".
 use mathlib.Core.List.{List}
 use Prim.Native.Nat.{ℕ}
 use Rattle.code.specs.Layout.{tagAt}

@@ -24,10 +24,9 @@ use Rattle.demand.specs.Chunk.{spanTest, roomTest, openTest, Judged, passes, fa
 use Rattle.demand.specs.BeforeWalk.{BeforeWalk}
 use Rattle.rules.specs.Edges.{degree}
 use Rattle.machine.specs.Lists.{sumOf}
-use Rattle.demand.specs.Measures.{Measures}
+use Rattle.demand.specs.Writing.{Measures, Writing}
 use Rattle.demand.specs.Refusals.{Real, Exceeds}
 use Rattle.rules.specs.Script.{Script}
-use Rattle.demand.specs.Writing.{Writing}
 use Rattle.answer.specs.declared.Answer.{Answer}
 use Rattle.answer.specs.declared.Answer.the-variants.{NoRoom, ChunkOutOfRange, Misaligned}
 use Rattle.demand.proofs.Demand.{judged-shut, judged-walks, accepted-exactly, accepted-measures, refused-really}

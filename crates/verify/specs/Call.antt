@@ -1,7 +1,7 @@
--- The whole call: the order of all tests, the verdict, and what the lent memory holds on return. Document 01, "Order of the
--- tests", and "What comes back": "Kinds 1, 2, and 3 for marks or heights come before any store. Every later return zeroes all of
--- records and work; all of marks holds the starts' bits after acceptance, zeros after refusal; heights hold a measured height for
--- each chunk before the one refused (all, if accepted), the others untouched."
+-- The whole call: the order of all tests, the verdict, and what the lent memory holds on return. Document 01, "Order of
+-- the tests", and "What comes back": "Kinds 1, 2, and 3 for marks or heights come before any store. Every later return
+-- zeroes all of records and work; all of marks holds the starts' bits after acceptance, zeros after refusal; heights
+-- hold a measured height for each chunk before the one refused (all, if accepted), the others untouched."
 use mathlib.Core.List.{List}
 use mathlib.Core.Option.{none, some}
 use mathlib.Core.Path.{_≡_}

@@ -1,6 +1,7 @@
--- The whole call in stages. Document 01, "Order of the tests": what stands before the chunks there, then "chunks upward. The first
--- refusal met ends the whole call"; "What comes back": "Kinds 1, 2, and 3 for marks or heights come before any store. Every later
--- return zeroes all of records and work", and "reached and taken, summed over the chunks".
+-- The whole call in stages. Document 01, "Order of the tests": what stands before the chunks there, then "chunks
+-- upward. The first refusal met ends the whole call"; "What comes back": "Kinds 1, 2, and 3 for marks or heights come
+-- before any store. Every later return zeroes all of records and work", and "reached and taken, summed over the
+-- chunks".
 use mathlib.Core.Bool.{Bool, false, cond}
 use mathlib.Core.List.{List, [], _∷_}
 use mathlib.Core.Option.{none, some}
@@ -45,17 +46,19 @@ pub record BothClear (records work records′ work′ : List ℕ) : Type 0 where
   pub work-zero : work′ ≡ replicate (length work) 0
 
 -- what a call for everything before the chunks comes to, with room for so many heights
-pub record Begins (I : Input) (heights : ℕ) (marks records work : List ℕ) (r : State) (marks′ records′ work′ : List ℕ) : Type 0 where
-  pub state : r ≡ opened (beforeChunks I (length marks) heights) (total marks′)
-  pub bits : marks′ ≡ marksAfter I heights marks
-  pub records-on : records′ ≡ wordsOn (beforeChunks I (length marks) heights) records
-  pub work-on : work′ ≡ wordsOn (beforeChunks I (length marks) heights) work
+module _ (I : Input) (heights : ℕ) (marks records work : List ℕ) where
+  pub record Begins (r : State) (marks′ records′ work′ : List ℕ) : Type 0 where
+    pub state : r ≡ opened (beforeChunks I (length marks) heights) (total marks′)
+    pub bits : marks′ ≡ marksAfter I heights marks
+    pub records-on : records′ ≡ wordsOn (beforeChunks I (length marks) heights) records
+    pub work-on : work′ ≡ wordsOn (beforeChunks I (length marks) heights) work
 
 -- ---- the chunks
 
 -- the state after more chunks are judged, and what marks hold then
 unfoldable pub advanced : State → Judgement → State
-advanced (Going instructions reached taken) (Passed more further) = Going instructions (reached + more) (taken + further)
+advanced (Going instructions reached taken) (Passed more further) =
+    Going instructions (reached + more) (taken + further)
 advanced (Going instructions reached taken) (Refused chunk a) = Ended (numbered chunk a)
 advanced (Ended verdict) judgement = Ended verdict
 
@@ -63,9 +66,10 @@ unfoldable pub marksThen : State → Judgement → (marks : List ℕ) → List �
 marksThen (Going instructions reached taken) judgement marks = marksOn judgement marks
 marksThen (Ended verdict) judgement marks = marks
 
-pub record Advances (state : State) (judgement : Judgement) (marks : List ℕ) (r : State) (marks′ : List ℕ) : Type 0 where
-  pub next : r ≡ advanced state judgement
-  pub bits : marks′ ≡ marksThen state judgement marks
+module _ (state : State) (judgement : Judgement) (marks : List ℕ) where
+  pub record Advances (r : State) (marks′ : List ℕ) : Type 0 where
+    pub next : r ≡ advanced state judgement
+    pub bits : marks′ ≡ marksThen state judgement marks
 
 -- the sums fit a `u64`
 unfoldable pub Fits : State → Judgement → Type 0

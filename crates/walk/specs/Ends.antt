@@ -1,5 +1,5 @@
--- The ends of a walk: what is cleared, tested and stored when no item is left, or one is refused. Document 01, "What comes
--- back": "Every later return zeroes all of records and work"; "heights hold a measured height for each chunk".
+-- The ends of a walk: what is cleared, tested and stored when no item is left, or one is refused. Document 01, "What
+-- comes back": "Every later return zeroes all of records and work"; "heights hold a measured height for each chunk".
 use mathlib.Core.Bool.{cond}
 use mathlib.Core.List.{List, _++_}
 use mathlib.Core.Path.{_≡_}
@@ -20,7 +20,8 @@ pub record Abandoned (used waited : ℕ) (records work records′ work′ : List
   pub work-zeroed : work′ ≡ zeroed waited work
 
 -- so many words of records were cleared, and the height is stored where it passes
-pub record Closed (used height declared chunk : ℕ) (heights records : List ℕ) (r : Outcome) (heights′ records′ : List ℕ) : Type 0 where
-  pub answer : told r ≡ heightTest height declared
-  pub stored : heights′ ≡ cond (ltb declared height) heights (set heights chunk height)
-  pub records-zeroed : records′ ≡ zeroed used records
+module _ (used height declared chunk : ℕ) (heights records : List ℕ) where
+  pub record Closed (r : Outcome) (heights′ records′ : List ℕ) : Type 0 where
+    pub answer : told r ≡ heightTest height declared
+    pub stored : heights′ ≡ cond (ltb declared height) heights (set heights chunk height)
+    pub records-zeroed : records′ ≡ zeroed used records

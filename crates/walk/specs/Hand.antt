@@ -1,5 +1,5 @@
--- The item in hand, with its book, as the code keeps them. Document 01, "Order of the tests": "The walk starts with (entry,
--- 0, 0, 0) and takes the work item pushed last".
+-- The item in hand, with its book, as the code keeps them. Document 01, "Order of the tests": "The walk starts with
+-- (entry, 0, 0, 0) and takes the work item pushed last".
 use mathlib.Core.List.{List}
 use Prim.Native.Nat.{ℕ, _+_, max}
 use Rattle.answer.specs.declared.Depths.{Depths}
@@ -16,7 +16,8 @@ abbrev pub countsOf : Hand → Counts
 countsOf h = record { reached = h .reached; taken = h .taken; height = h .height }
 
 abbrev pub bookWith : Counts → (records : List ℕ) → Book (List ℕ)
-bookWith counts records = record { store = records; reached = counts .reached; taken = counts .taken; height = counts .height }
+bookWith counts records =
+    record { store = records; reached = counts .reached; taken = counts .taken; height = counts .height }
 
 abbrev pub bookOf : Hand → (records : List ℕ) → Book (List ℕ)
 bookOf h records = bookWith (countsOf h) records
@@ -45,7 +46,8 @@ fallen keys h next d = record {
   height = h .height;
 }
 
--- an item that is dropped, and one that enters an instruction which leaves so many operands, where so many items wait then
+-- an item that is dropped, and one that enters an instruction which leaves so many operands, where so many items wait
+-- then
 abbrev pub droppedHand : Hand → Hand
 droppedHand h = record {
   place = h .place;

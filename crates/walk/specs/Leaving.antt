@@ -1,5 +1,5 @@
--- What leaving an instruction builds on and comes to. Document 01, "Order of the tests": "then edges, each target tested for
--- 9, then 10, and the fall-through pushed last".
+-- What leaving an instruction builds on and comes to. Document 01, "Order of the tests": "then edges, each target
+-- tested for 9, then 10, and the fall-through pushed last".
 use mathlib.Core.Bool.{true, false, _&&_, cond}
 use mathlib.Core.List.{List, _∷_, map}
 use mathlib.Core.Path.{_≡_}
@@ -51,10 +51,11 @@ BackOrDone keys h work (Refused a) work′ = ⊥
 -- the words with the depths in hand noted, where the place is a key
 abbrev pub noted : Room → Hand → List ℕ → List ℕ
 noted room h records =
-    cond (ltb (h .slot) (room .keys) && eqb (getD records (h .slot) 0) (h .place)) (noteAt records (room .base + h .slot * 3) (h .depths)) records
+    cond (ltb (h .slot) (room .keys) && eqb (getD records (h .slot) 0) (h .place))
+    (noteAt records (room .base + h .slot * 3) (h .depths)) records
 
--- what leaving an instruction builds on: room for its note and its jumps, a pointer that is not past the next place, and numbers
--- that fit
+-- what leaving an instruction builds on: room for its note and its jumps, a pointer that is not past the next place,
+-- and numbers that fit
 pub record RoomToLeave (room : Room) (h : Hand) (next : ℕ) (targets records work : List ℕ) : Type 0 where
   pub keys-room : room .keys ≤ length records
   pub notes-room : room .base + room .keys * 3 ≤ length records
@@ -68,11 +69,16 @@ pub record RoomToLeave (room : Room) (h : Hand) (next : ℕ) (targets records wo
   pub taken-fits : h .taken + 1 < 2 ^ 64
 
 -- what it comes to: the depths noted, the jumps pushed, and the next place in hand or an item taken back
-pub record InstructionLeft (room : Room) (h : Hand) (edges : Edges) (targets records work : List ℕ) (r : Turn) (records′ work′ : List ℕ) : Type 0 where
-  pub words : records′ ≡ noted room h records
-  pub goes : edges .falls ≡ true
-      → (r ≡ Next (fallen (take (room .keys) records) (enteredHand h (edges .after .operands) (h .waiting + length targets)) (edges .next) (edges .after)))
-      × (work′ ≡ putAll work (h .waiting) (jumpsTo (edges .jumped) targets))
-  pub back : edges .falls ≡ false
-      → BackOrDone (take (room .keys) records) (enteredHand h (edges .after .operands) (h .waiting + length targets))
-      (putAll work (h .waiting) (jumpsTo (edges .jumped) targets)) r work′
+module _ (room : Room) (h : Hand) (edges : Edges) (targets records work : List ℕ) where
+  -- the hand once the instruction is entered and its jumps wait, and the words of work with them
+  abbrev entered : Hand
+  entered = enteredHand h (edges .after .operands) (h .waiting + length targets)
+
+  abbrev pushed : List ℕ
+  pushed = putAll work (h .waiting) (jumpsTo (edges .jumped) targets)
+
+  pub record InstructionLeft (r : Turn) (records′ work′ : List ℕ) : Type 0 where
+    pub words : records′ ≡ noted room h records
+    pub goes : edges .falls ≡ true
+        → (r ≡ Next (fallen (take (room .keys) records) entered (edges .next) (edges .after))) × (work′ ≡ pushed)
+    pub back : edges .falls ≡ false → BackOrDone (take (room .keys) records) entered pushed r work′

@@ -1,5 +1,5 @@
--- What records hold while a chunk is walked: behind the keys, three words for each of them, the depths with which it was seen.
--- Document 01, "Flat pools and sizes": "records, 4 × (1 + T)"; "Order of the tests": "and was seen before".
+-- What records hold while a chunk is walked: behind the keys, three words for each of them, the depths with which it
+-- was seen. Document 01, "Flat pools and sizes": "records, 4 × (1 + T)"; "Order of the tests": "and was seen before".
 use mathlib.Core.Bool.{cond}
 use mathlib.Core.List.{List}
 use Prim.Native.Nat.{ℕ, _+_, _*_}

@@ -28,15 +28,21 @@ use Rattle.walk.specs.Records.{seenStore}
 abbrev pub roomSpan : Room → Span
 roomSpan room = record { entry = room .entry; end = room .end; declared = 0 }
 
+-- a turn of the walk over words
+abbrev pub WalkTurn : Type 0
+WalkTurn = definition.Turn Answer (List ℕ)
+
 module _ (S : Script) (room : Room) where
   -- one turn of the walk from the item in hand
-  abbrev pub turnOf : Hand → (records work : List ℕ) → definition.Turn Answer (List ℕ)
+  abbrev pub turnOf : Hand → (records work : List ℕ) → WalkTurn
   turnOf h records work =
-      turn (machine S (roomSpan room)) (seenStore S (roomSpan room)) (itemOf h) (items work (h .waiting)) (bookOf h records)
+      turn (machine S (roomSpan room)) (seenStore S (roomSpan room)) (itemOf h)
+      (items work (h .waiting)) (bookOf h records)
 
   -- the walk has come to the item in hand, with these words of records and of work
   pub record WalkAt (h : Hand) (records work : List ℕ) : Type 0 where
-    pub ran : walk (machine S (roomSpan room)) (seenStore S (roomSpan room)) (h .taken) (laid S (roomSpan room) (length records))
+    pub ran : walk (machine S (roomSpan room)) (seenStore S (roomSpan room)) (h .taken)
+        (laid S (roomSpan room) (length records))
         ≡ unfinished (itemOf h ∷ items work (h .waiting)) (bookOf h records)
     pub slot : h .slot ≡ below (keys S (roomSpan room)) (h .place)
     pub clear : Clear work (h .waiting)
@@ -56,23 +62,23 @@ module _ (S : Script) (room : Room) where
     pub unseen : seen (machine S (roomSpan room)) (seenStore S (roomSpan room)) (h .place) records ≡ none
 
   -- what a turn comes to: the next item in hand, with what waits and what is noted in the words,
-  pub record GoesOn (t : definition.Turn Answer (List ℕ)) (h : Hand) (records work : List ℕ) : Type 0 where
+  pub record GoesOn (t : WalkTurn) (h : Hand) (records work : List ℕ) : Type 0 where
     pub turned : t ≡ goes-on (itemOf h ∷ items work (h .waiting)) (bookOf h records)
     pub slot : h .slot ≡ below (keys S (roomSpan room)) (h .place)
     pub clear : Clear work (h .waiting)
 
   -- no item is left,
-  pub record Ends (t : definition.Turn Answer (List ℕ)) (last : Counts) (records work : List ℕ) : Type 0 where
+  pub record Ends (t : WalkTurn) (last : Counts) (records work : List ℕ) : Type 0 where
     pub turned : t ≡ goes-on [] (bookWith last records)
     pub clear : Clear work 0
 
   -- or a refusal, and the words are as they were
-  pub record Stops (t : definition.Turn Answer (List ℕ)) (a : Answer) (records work records′ work′ : List ℕ) : Type 0 where
+  pub record Stops (t : WalkTurn) (a : Answer) (records work records′ work′ : List ℕ) : Type 0 where
     pub turned : t ≡ stops a
     pub same-records : records′ ≡ records
     pub same-work : work′ ≡ work
 
-  abbrev pub SameTurn : definition.Turn Answer (List ℕ) → (records work : List ℕ) → Turn → (records′ work′ : List ℕ) → Type 0
+  abbrev pub SameTurn : WalkTurn → (records work : List ℕ) → Turn → (records′ work′ : List ℕ) → Type 0
   SameTurn t records work (Next next) records′ work′ = GoesOn t next records′ work′
   SameTurn t records work (Done last) records′ work′ = Ends t last records′ work′
   SameTurn t records work (Refused a) records′ work′ = Stops t a records work records′ work′
