@@ -2,15 +2,15 @@
 -- an offset for 5, 6, 9 to 12, 15, 16 and a walk's 4; unused are 0", and the table of kinds.
 use mathlib.Core.Option.{Option, none, some}
 use Prim.Native.Nat.{ℕ}
-use Rattle.answer.specs.declared.Answer.{Answer}
-use Rattle.answer.specs.declared.Answer.the-variants.{Accepted, TooLarge, BadTable, NoRoom, MissingCaps}
-use Rattle.answer.specs.declared.Answer.the-variants.{Undecodable, BadIndex, ChunkOutOfRange, Misaligned}
-use Rattle.answer.specs.declared.Answer.the-variants.{JumpOutOfRange, JumpIntoAnInstruction, DepthConflict}
-use Rattle.answer.specs.declared.Answer.the-variants.{Underflow, FallsOffTheEnd, StackExceedsDeclared}
-use Rattle.answer.specs.declared.Answer.the-variants.{IteratorUnderflow, HandlerUnderflow}
+pub use Rattle.answer.specs.declared.Answer.{Answer}
+pub use Rattle.answer.specs.declared.Answer.the-variants.{Accepted, TooLarge, BadTable, NoRoom, MissingCaps}
+pub use Rattle.answer.specs.declared.Answer.the-variants.{Undecodable, BadIndex, ChunkOutOfRange, Misaligned}
+pub use Rattle.answer.specs.declared.Answer.the-variants.{JumpOutOfRange, JumpIntoAnInstruction, DepthConflict}
+pub use Rattle.answer.specs.declared.Answer.the-variants.{Underflow, FallsOffTheEnd, StackExceedsDeclared}
+pub use Rattle.answer.specs.declared.Answer.the-variants.{IteratorUnderflow, HandlerUnderflow}
 use Rattle.answer.specs.declared.Outcome.{Outcome}
 use Rattle.answer.specs.declared.Outcome.the-variants.{Passed, Refused}
-use Rattle.answer.specs.declared.verdict.Verdict.{Verdict}
+pub use Rattle.answer.specs.declared.verdict.Verdict.{Verdict}
 
 -- the chunk of an answer that is about none: before the chunks, and on acceptance
 abbrev pub noChunk : ℕ

@@ -21,7 +21,7 @@ use Rattle.marks.specs.Marks.{Holds, Words, markedAll, total}
 use Rattle.marks.proofs.Laws.{holds-all, words-all, zeros-words}
 use Rattle.pools.specs.Good.{GoodTables}
 use Rattle.pools.specs.Sizes.{Within}
-use Rattle.rules.specs.Bits.{FUNCTION}
+use Rattle.rules.specs.Bits.{Right, bit}
 use Rattle.rules.specs.Rights.{lacking}
 use Rattle.answer.specs.declared.Answer.the-variants.{MissingCaps, Undecodable, BadIndex}
 use Rattle.rules.specs.There.{NameThere, ChainThere, SwitchThere}
@@ -44,9 +44,9 @@ all-granted rights (word ∷ words) e zero h = granted word rights (both _ _ e .
 all-granted rights (word ∷ words) e (suc i) h =
     all-granted rights words (sym (last _) ∙ both _ _ e .others) i (le-of-suc-le-suc h)
 
-function-granted : (functions rights : ℕ) → functionTest functions rights ≡ none → (functions ≡ 0 → ⊥) → lacking FUNCTION rights ≡ 0
+function-granted : (functions rights : ℕ) → functionTest functions rights ≡ none → (functions ≡ 0 → ⊥) → lacking (bit Right.FUNCTION) rights ≡ 0
 unfolding functionTest
-function-granted functions rights e n = granted FUNCTION rights (rw (ne-eqb functions 0 n) at e)
+function-granted functions rights e n = granted (bit Right.FUNCTION) rights (rw (ne-eqb functions 0 n) at e)
 
 -- a check that tells no kind tells that all is fine
 no-kind : (size : ℕ → ℕ) (rs : List reference.Ref) → reference.firstBad size rs .kind ≡ 0 → reference.firstBad size rs ≡ reference.fine
@@ -106,7 +106,7 @@ pub record Established (I : Input) : Type 0 where
   pub good : GoodTables (I .script .pools .chains) (I .script .pools .steps) (I .script .pools .switches) (I .script .pools .cases) (I .script .pools .ranges)
   -- the rights that the constants need are granted, and FUNCTION where there are functions
   pub constants-granted : (i : ℕ) → i < length (I .script .pools .constants) → lacking (getD (I .script .pools .constants) i 0) (I .script .rights) ≡ 0
-  pub function-granted : (I .functions ≡ 0 → ⊥) → lacking FUNCTION (I .script .rights) ≡ 0
+  pub function-granted : (I .functions ≡ 0 → ⊥) → lacking (bit Right.FUNCTION) (I .script .rights) ≡ 0
   -- every byte of the code belongs to an instruction, whose indices are all fine
   pub decoded : stopBy widthOf (I .script .code) 0 ≡ length (I .script .code)
   pub indices-fine : (p : ℕ) → Start widthOf (I .script .code) p → reference.checkedAt (I .script .pools) (I .script .code) p ≡ reference.fine

@@ -10,7 +10,7 @@ use Rattle.pools.specs.Sizes.{firstExceeded}
 use Rattle.pools.specs.Tables.{firstBad}
 use Rattle.pools.specs.Told.{fine, overLimit, badTable}
 use Rattle.pools.specs.declared.limits.Sizes.{Sizes}
-use Rattle.rules.specs.Bits.{FUNCTION}
+use Rattle.rules.specs.Bits.{Right, bit}
 use Rattle.rules.specs.Rights.{lacking}
 use Rattle.answer.specs.declared.Answer.{Answer}
 use Rattle.answer.specs.declared.Answer.the-variants.{TooLarge, BadTable, NoRoom, MissingCaps}
@@ -96,6 +96,6 @@ module _ (functions rights : ℕ) where
   unfolding functionTest
   no-functions e = rw e
 
-  pub some-functions : (functions ≡ 0 → ⊥) → rightsTest FUNCTION rights ≡ functionTest functions rights
+  pub some-functions : (functions ≡ 0 → ⊥) → rightsTest (bit Right.FUNCTION) rights ≡ functionTest functions rights
   unfolding functionTest
   some-functions n = rw (ne-eqb functions 0 n)

@@ -16,7 +16,7 @@ use Rattle.pools.specs.Tables.{firstBad}
 use Rattle.pools.specs.declared.limits.Sizes.{Sizes}
 use Rattle.answer.specs.Answer.{refusal, noChunk, numbered}
 use Rattle.answer.specs.declared.verdict.Verdict.{Verdict}
-use Rattle.rules.specs.Bits.{FUNCTION}
+use Rattle.rules.specs.Bits.{Right, bit}
 use Rattle.rules.specs.Rights.{lacking}
 use Rattle.answer.specs.declared.Answer.{Answer}
 use Rattle.answer.specs.declared.Answer.the-variants.{TooLarge, BadTable, NoRoom, MissingCaps, Undecodable, BadIndex}
@@ -59,7 +59,7 @@ constantsTest rights (word ∷ words) = first (rightsTest word rights ∷ consta
 
 -- of FUNCTION, where there are functions
 unfoldable pub functionTest : (functions rights : ℕ) → Test
-functionTest functions rights = cond (eqb functions 0) none (rightsTest FUNCTION rights)
+functionTest functions rights = cond (eqb functions 0) none (rightsTest (bit Right.FUNCTION) rights)
 
 -- kind 5: the instructions stop at an offset before the code's end
 unfoldable pub widthTest : List ℕ → ℕ → Test

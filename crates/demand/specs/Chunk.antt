@@ -6,10 +6,8 @@ use mathlib.Core.Option.{Option, none, some}
 use Prim.Native.Nat.{ℕ, _+_, _*_}
 use lib.Dec.{ltb, eqb}
 use lib.ListN.{length}
-use Rattle.answer.specs.Answer.{unless}
-use Rattle.answer.specs.declared.Answer.{Answer}
-use Rattle.answer.specs.declared.Answer.the-variants.{NoRoom, ChunkOutOfRange, Misaligned, StackExceedsDeclared}
-use Rattle.answer.specs.declared.Answer.the-variants.{FallsOffTheEnd}
+use Rattle.answer.specs.Answer.{unless, Answer, NoRoom, ChunkOutOfRange, Misaligned, StackExceedsDeclared}
+use Rattle.answer.specs.Answer.{FallsOffTheEnd}
 use Rattle.code.specs.Layout.{among}
 use Rattle.listing.specs.Listing.{starts}
 use Rattle.machine.specs.Walk.{Run, accepted, refused, unfinished, Log, log, walk}

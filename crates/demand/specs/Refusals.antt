@@ -4,12 +4,9 @@
 use mathlib.Core.Logic.{_⊎_}
 use mathlib.Core.Path.{_≡_}
 use Prim.Native.Nat.{ℕ, _≤_, _<_}
-use Rattle.answer.specs.declared.Answer.{Answer}
-use Rattle.answer.specs.declared.Answer.the-variants.{MissingCaps, JumpOutOfRange, JumpIntoAnInstruction, DepthConflict}
-use Rattle.answer.specs.declared.Answer.the-variants.{Underflow, FallsOffTheEnd, StackExceedsDeclared}
-use Rattle.answer.specs.declared.Answer.the-variants.{IteratorUnderflow, HandlerUnderflow}
-use Rattle.answer.specs.declared.Depths.{Depths}
-use Rattle.answer.specs.Depths.{Item}
+use Rattle.answer.specs.Answer.{Answer, MissingCaps, JumpOutOfRange, JumpIntoAnInstruction, DepthConflict, Underflow}
+use Rattle.answer.specs.Answer.{FallsOffTheEnd, StackExceedsDeclared, IteratorUnderflow, HandlerUnderflow}
+use Rattle.answer.specs.Depths.{Depths, Item}
 use Rattle.code.specs.Width.{widthOf}
 use Rattle.listing.specs.Listing.{Start}
 use Rattle.machine.specs.Lists.{_∈_}

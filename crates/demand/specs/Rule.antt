@@ -7,11 +7,9 @@ use mathlib.Core.List.{List, [], _∷_, _++_, map}
 use mathlib.Core.Option.{Option, none, some}
 use Prim.Native.Nat.{ℕ}
 use lib.Dec.{ltb, leb}
-use Rattle.answer.specs.Answer.{unless}
-use Rattle.answer.specs.declared.Answer.{Answer}
-use Rattle.answer.specs.declared.Answer.the-variants.{MissingCaps, JumpOutOfRange, JumpIntoAnInstruction, DepthConflict}
-use Rattle.answer.specs.declared.Answer.the-variants.{Underflow, FallsOffTheEnd, IteratorUnderflow, HandlerUnderflow}
-use Rattle.answer.specs.declared.Depths.{Depths}
+use Rattle.answer.specs.Answer.{unless, Answer, MissingCaps, JumpOutOfRange, JumpIntoAnInstruction, DepthConflict}
+use Rattle.answer.specs.Answer.{Underflow, FallsOffTheEnd, IteratorUnderflow, HandlerUnderflow}
+use Rattle.answer.specs.Depths.{Depths}
 use Rattle.code.specs.Layout.{among}
 use Rattle.listing.specs.Listing.{starts}
 use Rattle.machine.specs.Machine.{Ruling, denies, gives, Machine}

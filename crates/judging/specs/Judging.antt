@@ -7,8 +7,8 @@ use lib.ListN.{set}
 use Rattle.demand.specs.Chunk.{passes, fails, judgeChunk}
 use Rattle.demand.specs.Span.{Span}
 use Rattle.rules.specs.Script.{Script}
-use Rattle.judging.specs.declared.Judgement.{Judgement}
-use Rattle.judging.specs.declared.Judgement.the-variants.{Passed, Refused}
+pub use Rattle.judging.specs.declared.Judgement.{Judgement}
+pub use Rattle.judging.specs.declared.Judgement.the-variants.{Passed, Refused}
 
 -- chunks judged one after the other: the answer, and what heights hold with it
 pub record JudgedAll : Type 0 where

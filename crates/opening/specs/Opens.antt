@@ -6,7 +6,7 @@ use mathlib.Core.Option.{some}
 use mathlib.Core.Path.{_≡_}
 use Prim.Native.Nat.{ℕ, _+_, _*_, _≤_}
 use lib.ListN.{length, take, replicate}
-use Rattle.answer.specs.declared.Answer.{Answer}
+use Rattle.answer.specs.Answer.{Answer}
 use Rattle.demand.specs.Chunk.{openTest}
 use Rattle.demand.specs.Span.{T, E, Span, InCode}
 use Rattle.order.specs.Order.{inOrder}

@@ -13,16 +13,16 @@ use Rattle.code.specs.Tags.{SHARE, SHARE-NAMED, ASSIGN-THIS-OP, MAKE-CLOSURE, L
 use Rattle.code.specs.Tags.{CUSTOM-SYNTAX, IMPORT, CALL, CALL-THIS-REF, EXPORT-LOCAL, EXPORT-NAMED, CALL-OP}
 use Rattle.code.specs.Tags.{CALL-LOCAL-REF, CALL-NAMED-REF, callFnPtrs}
 use Rattle.pools.specs.Pools.{Chain, Step, chainAt, stepsOf}
-use Rattle.rules.specs.Bits as bit
+use Rattle.rules.specs.Bits.{Right, bit}
 
 -- ---- of what an instruction names
 
 -- MODULE for a qualified name
 unfoldable pub ofName : List ℕ → ℕ → ℕ
-ofName names name = cond (eqb (getD names name 0) 0) 0 bit.MODULE
+ofName names name = cond (eqb (getD names name 0) 0) 0 (bit Right.MODULE)
 
 unfoldable pub ofStep : Step → ℕ
-ofStep s = cond (eqb (s .kind) 0) bit.INDEXING (cond (eqb (s .kind) 1) bit.PROPERTY bit.METHOD)
+ofStep s = cond (eqb (s .kind) 0) (bit Right.INDEXING) (cond (eqb (s .kind) 1) (bit Right.PROPERTY) (bit Right.METHOD))
 
 unfoldable pub ofSteps : List Step → ℕ
 ofSteps [] = 0
@@ -30,7 +30,7 @@ ofSteps (s ∷ ss) = bitOr (ofStep s) (ofSteps ss)
 
 -- THIS for a chain whose root is `this`, joined with what its steps need
 unfoldable pub ofChain : List ℕ → Chain → ℕ
-ofChain steps c = bitOr (cond (eqb (c .root) 2) bit.THIS 0) (ofSteps (stepsOf steps c))
+ofChain steps c = bitOr (cond (eqb (c .root) 2) (bit Right.THIS) 0) (ofSteps (stepsOf steps c))
 
 -- ---- of a tag
 
@@ -43,18 +43,18 @@ pub data Need : Type 0 where
 abbrev pub rightsByTag : List (Row Need)
 rightsByTag =
     (chained for CHAIN ∷ [])
-    ∷ (fixed bit.FN-PTR for MAKE-FN-PTR ∷ MAKE-CLOSURE ∷ callFnPtrs)
-    ∷ (fixed (bitOr bit.FN-PTR bit.CURRYING) for CURRY ∷ [])
-    ∷ (fixed bit.SHARING for SHARE ∷ SHARE-NAMED ∷ [])
-    ∷ (fixed bit.THIS for REQUIRE-THIS ∷ LOAD-THIS ∷ LOAD-THIS-SHARED ∷ ASSIGN-THIS ∷ ASSIGN-THIS-OP ∷ [])
-    ∷ (fixed bit.ARRAY for MAKE-ARRAY ∷ [])
-    ∷ (fixed bit.MAP for MAKE-MAP ∷ [])
-    ∷ (fixed bit.SHARING for IS-SHARED ∷ [])
-    ∷ (fixed bit.CUSTOM-SYNTAX for CUSTOM-SYNTAX ∷ [])
-    ∷ (fixed bit.EXPORT for EXPORT-LOCAL ∷ EXPORT-NAMED ∷ [])
-    ∷ (fixed bit.IMPORT for IMPORT ∷ [])
+    ∷ (fixed (bit Right.FN-PTR) for MAKE-FN-PTR ∷ MAKE-CLOSURE ∷ callFnPtrs)
+    ∷ (fixed (bitOr (bit Right.FN-PTR) (bit Right.CURRYING)) for CURRY ∷ [])
+    ∷ (fixed (bit Right.SHARING) for SHARE ∷ SHARE-NAMED ∷ [])
+    ∷ (fixed (bit Right.THIS) for REQUIRE-THIS ∷ LOAD-THIS ∷ LOAD-THIS-SHARED ∷ ASSIGN-THIS ∷ ASSIGN-THIS-OP ∷ [])
+    ∷ (fixed (bit Right.ARRAY) for MAKE-ARRAY ∷ [])
+    ∷ (fixed (bit Right.MAP) for MAKE-MAP ∷ [])
+    ∷ (fixed (bit Right.SHARING) for IS-SHARED ∷ [])
+    ∷ (fixed (bit Right.CUSTOM-SYNTAX) for CUSTOM-SYNTAX ∷ [])
+    ∷ (fixed (bit Right.EXPORT) for EXPORT-LOCAL ∷ EXPORT-NAMED ∷ [])
+    ∷ (fixed (bit Right.IMPORT) for IMPORT ∷ [])
     ∷ (named 0 for LOAD-NAMED ∷ CALL ∷ CALL-OP ∷ CALL-LOCAL-REF ∷ CALL-NAMED-REF ∷ [])
-    ∷ (named bit.THIS for CALL-THIS-REF ∷ [])
+    ∷ (named (bit Right.THIS) for CALL-THIS-REF ∷ [])
     ∷ []
 
 -- all others need none

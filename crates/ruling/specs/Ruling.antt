@@ -7,10 +7,8 @@ use mathlib.Core.List.{List}
 use mathlib.Core.Option.{Option, none, some}
 use Prim.Native.Nat.{ℕ, _+_, _^_, _≤_, _<_}
 use lib.Dec.{ltb, leb}
-use Rattle.answer.specs.Answer.{unless}
-use Rattle.answer.specs.declared.Answer.{Answer}
-use Rattle.answer.specs.declared.Answer.the-variants.{JumpOutOfRange, JumpIntoAnInstruction, FallsOffTheEnd}
-use Rattle.answer.specs.declared.Depths.{Depths}
+use Rattle.answer.specs.Answer.{unless, Answer, JumpOutOfRange, JumpIntoAnInstruction, FallsOffTheEnd}
+use Rattle.answer.specs.Depths.{Depths}
 use Rattle.demand.specs.Rule.{needsTest, rule}
 use Rattle.demand.specs.Span.{Span}
 use Rattle.machine.specs.Machine as machine

@@ -7,16 +7,12 @@ use mathlib.Core.Option.{none, some}
 use mathlib.Core.Path.{_≡_}
 use Prim.Native.Nat.{ℕ}
 use lib.ListN.{length, replicate}
-use Rattle.answer.specs.Answer.{noChunk, numbered}
-use Rattle.answer.specs.declared.Answer.the-variants.{Accepted}
-use Rattle.answer.specs.declared.verdict.Verdict.{Verdict}
+use Rattle.answer.specs.Answer.{noChunk, numbered, Accepted, Verdict}
 use Rattle.before.specs.Before.{Test, beforeStores, afterStores}
 use Rattle.before.specs.Input.{Input}
 use Rattle.before.specs.Memory.{marksOf}
 use Rattle.demand.specs.Span.{Span}
-use Rattle.judging.specs.declared.Judgement.{Judgement}
-use Rattle.judging.specs.declared.Judgement.the-variants.{Passed, Refused}
-use Rattle.judging.specs.Judging.{JudgedAll, judgeAll}
+use Rattle.judging.specs.Judging.{Judgement, Passed, Refused, JudgedAll, judgeAll}
 use Rattle.marks.specs.Marks.{total}
 use Rattle.verify.specs.Accounts.{Accounted}
 

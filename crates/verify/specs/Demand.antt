@@ -9,10 +9,7 @@ use mathlib.Core.Option.{none}
 use mathlib.Core.Path.{_≡_}
 use Prim.Native.Nat.{ℕ, _+_, _*_, _≤_, _<_}
 use lib.ListN.{length}
-use Rattle.answer.specs.Answer.{numbered}
-use Rattle.answer.specs.declared.Answer.{Answer}
-use Rattle.answer.specs.declared.Answer.the-variants.{NoRoom, ChunkOutOfRange, Misaligned}
-use Rattle.answer.specs.declared.verdict.Verdict.{Verdict}
+use Rattle.answer.specs.Answer.{numbered, Answer, NoRoom, ChunkOutOfRange, Misaligned, Verdict}
 use Rattle.before.specs.Before.{beforeStores, afterStores}
 use Rattle.before.specs.Input.{Input}
 use Rattle.code.specs.Width.{widthOf}

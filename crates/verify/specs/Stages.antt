@@ -9,17 +9,13 @@ use mathlib.Core.Path.{_≡_}
 use Prim.Native.Nat.{ℕ, _+_, _*_, _^_, _≤_, _<_}
 use lib.Dec.{leb, ltb}
 use lib.ListN.{length, replicate}
-use Rattle.answer.specs.Answer.{noChunk, numbered}
-use Rattle.answer.specs.declared.Answer.the-variants.{Accepted}
-use Rattle.answer.specs.declared.verdict.Verdict.{Verdict}
+use Rattle.answer.specs.Answer.{noChunk, numbered, Accepted, Verdict}
 use Rattle.before.specs.Before.{Test, beforeChunks}
 use Rattle.before.specs.Input.{Input}
 use Rattle.before.specs.Memory.{marksAfter}
 use Rattle.demand.specs.Span.{Span}
-use Rattle.judging.specs.declared.Judgement.{Judgement}
-use Rattle.judging.specs.declared.Judgement.the-variants.{Passed, Refused}
 use Rattle.judging.specs.Judges.{mostReached, mostTaken}
-use Rattle.judging.specs.Judging.{JudgedAll, judgeAll}
+use Rattle.judging.specs.Judging.{Judgement, Passed, Refused, JudgedAll, judgeAll}
 use Rattle.marks.specs.Marks.{total}
 use Rattle.opening.specs.Ready.{Ready, Marked}
 use Rattle.pools.specs.Sizes.{maxChunks}

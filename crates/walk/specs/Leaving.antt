@@ -6,8 +6,7 @@ use mathlib.Core.Path.{_≡_}
 use Prim.Native.Nat.{ℕ, _+_, _*_, _^_, _≤_, _<_}
 use lib.Dec.{ltb, eqb}
 use lib.ListN.{length, getD, take}
-use Rattle.answer.specs.declared.Depths.{Depths}
-use Rattle.answer.specs.Depths.{Item}
+use Rattle.answer.specs.Depths.{Depths, Item}
 use Rattle.opening.specs.declared.Room.{Room}
 use Rattle.order.specs.Order.{Rising, below}
 use Rattle.ruling.specs.declared.Edges.{Edges}

@@ -5,7 +5,7 @@ use mathlib.Core.Option.{none}
 use mathlib.Core.Path.{_≡_}
 use Prim.Native.Nat.{ℕ, _+_, _<_}
 use lib.ListN.{length}
-use Rattle.answer.specs.declared.Answer.{Answer}
+use Rattle.answer.specs.Answer.{Answer}
 use Rattle.demand.specs.BeforeWalk.{BeforeWalk}
 use Rattle.demand.specs.Rule.{machine}
 use Rattle.demand.specs.Span.{T, Span}
