@@ -1,8 +1,8 @@
--- The tags by name, the document's lists of them by width, and the groups that it writes with a star. Document 01,
--- "Tags": "Numbers run from 0x01 in this order", and IMPORT 0x4f. The document's `_` is written here as `-`.
+-- The tags by name, and the groups that document 01 writes with a star: `loads` is its LOAD_*, `callRefs` its
+-- CALL_*_REF. "Tags": "Numbers run from 0x01 in this order", and IMPORT 0x4f. The document's `_` is written here as
+-- `-`.
 use mathlib.Core.List.{List, [], _∷_}
 use Prim.Native.Nat.{ℕ}
-use Rattle.code.specs.ByTag.{Row, _for_}
 
 -- width 1
 abbrev pub UNIT : ℕ
@@ -227,64 +227,36 @@ PUSH-HANDLER-VAR = 0x46
 abbrev pub ASSIGN-LOCAL-OP : ℕ
 ASSIGN-LOCAL-OP = 0x47
 
--- ---- the document's lists, by width
-abbrev pub widths : List (Row ℕ)
-widths =
-    (1 for UNIT ∷ FALSE ∷ TRUE ∷ POP ∷ TICK ∷ CHECKPOINT ∷ RETURN ∷ THROW ∷ ITER-INIT ∷ ITER-DROP ∷ INTERPOLATE-START ∷
-    INTERPOLATE-APPEND ∷ INTERPOLATE-END ∷ POP-HANDLER ∷ IS-SHARED ∷ MAKE-FN-PTR ∷ LOAD-THIS ∷ LOAD-THIS-SHARED ∷
-    REQUIRE-THIS ∷ ASSIGN-THIS ∷ [])
-    ∷ (2 for ROTATE ∷ CURRY ∷ CALL-FN-PTR ∷ CALL-FN-PTR-CAPTURE ∷ CALL-FN-PTR-METHOD ∷ CALL-FN-PTR-ON-THIS ∷ [])
-    ∷ (3 for UNWIND-TO ∷ STATEMENT ∷ SHARE ∷ SHARE-NAMED ∷ LOAD-SHARED ∷ LOAD-SHARED-NAMED ∷ STORE-SHARED ∷
-    ASSIGN-THIS-OP ∷ MAKE-CLOSURE ∷ LOAD-CONST ∷ LOAD-LOCAL ∷ LOAD-NAMED ∷ STORE-LOCAL ∷ STORE-CONST ∷ DECLARE-LOCAL ∷
-    DECLARE-CONST ∷ DECLARE-GLOBAL-CONST ∷ CHAIN ∷ MAKE-ARRAY ∷ MAKE-MAP ∷ CHECK-ARRAY-SIZE ∷ CHECK-MAP-SIZE ∷ SWITCH ∷
-    CUSTOM-SYNTAX ∷ ASSIGN-NAMED ∷ IMPORT ∷ [])
-    ∷ (4 for CALL ∷ CALL-THIS-REF ∷ CALL-FN-PTR-ON-LOCAL ∷ CALL-FN-PTR-ON-NAMED ∷ [])
-    ∷ (5 for JUMP ∷ JUMP-IF-TRUE ∷ JUMP-IF-FALSE ∷ SKIP-IF-NOT-UNIT ∷ ITER-NEXT ∷ PUSH-HANDLER ∷ EXPORT-LOCAL ∷
-    EXPORT-NAMED ∷ ASSIGN-LOCAL ∷ ASSIGN-NAMED-OP ∷ [])
-    ∷ (6 for CALL-OP ∷ CALL-LOCAL-REF ∷ CALL-NAMED-REF ∷ [])
-    ∷ (7 for ITER-NEXT-INDEXED ∷ PUSH-HANDLER-VAR ∷ ASSIGN-LOCAL-OP ∷ [])
-    ∷ []
-
 -- ---- groups
 
--- LOAD_*
 abbrev pub loads : List ℕ
 loads = LOAD-THIS ∷ LOAD-THIS-SHARED ∷ LOAD-SHARED ∷ LOAD-SHARED-NAMED ∷ LOAD-CONST ∷ LOAD-LOCAL ∷ LOAD-NAMED ∷ []
 
--- STORE_*
 abbrev pub stores : List ℕ
 stores = STORE-SHARED ∷ STORE-LOCAL ∷ STORE-CONST ∷ []
 
--- DECLARE_*
 abbrev pub declares : List ℕ
 declares = DECLARE-LOCAL ∷ DECLARE-CONST ∷ DECLARE-GLOBAL-CONST ∷ []
 
--- ASSIGN_*
 abbrev pub assigns : List ℕ
 assigns = ASSIGN-THIS ∷ ASSIGN-THIS-OP ∷ ASSIGN-NAMED ∷ ASSIGN-LOCAL ∷ ASSIGN-NAMED-OP ∷ ASSIGN-LOCAL-OP ∷ []
 
--- JUMP_IF_*
 abbrev pub jumpIfs : List ℕ
 jumpIfs = JUMP-IF-TRUE ∷ JUMP-IF-FALSE ∷ []
 
--- CHECK_*
 abbrev pub checks : List ℕ
 checks = CHECK-ARRAY-SIZE ∷ CHECK-MAP-SIZE ∷ []
 
--- CALL_*_REF
 abbrev pub callRefs : List ℕ
 callRefs = CALL-LOCAL-REF ∷ CALL-NAMED-REF ∷ CALL-THIS-REF ∷ []
 
--- CALL_FN_PTR*
 abbrev pub callFnPtrs : List ℕ
 callFnPtrs =
     CALL-FN-PTR ∷ CALL-FN-PTR-CAPTURE ∷ CALL-FN-PTR-METHOD ∷ CALL-FN-PTR-ON-THIS ∷ CALL-FN-PTR-ON-LOCAL ∷
     CALL-FN-PTR-ON-NAMED ∷ []
 
--- ITER_NEXT*
 abbrev pub iterNexts : List ℕ
 iterNexts = ITER-NEXT ∷ ITER-NEXT-INDEXED ∷ []
 
--- PUSH_HANDLER*
 abbrev pub pushHandlers : List ℕ
 pushHandlers = PUSH-HANDLER ∷ PUSH-HANDLER-VAR ∷ []

@@ -8,7 +8,8 @@ use lib.ListN.{length}
 use Rattle.code.specs.Layout.{among, indexAt}
 use Rattle.code.specs.Tags.{CHAIN, SWITCH}
 use Rattle.code.specs.Width.{widthOf}
-use Rattle.listing.specs.Listing.{Start, starts, stopBy}
+use Rattle.listing.specs.Listing.{stopBy}
+use Rattle.listing.specs.Starts.{Start, starts}
 use Rattle.pools.specs.Good.{ChainsWithin, SwitchesWithin}
 use Rattle.pools.specs.Pools.{chainsIn, switchesIn}
 use Rattle.rules.specs.Script.{Script, tagOf}

@@ -9,7 +9,7 @@ use lib.ListN.{length}
 use Rattle.answer.specs.Answer.{unless, Answer, NoRoom, ChunkOutOfRange, Misaligned, StackExceedsDeclared}
 use Rattle.answer.specs.Answer.{FallsOffTheEnd}
 use Rattle.code.specs.Layout.{among}
-use Rattle.listing.specs.Listing.{starts}
+use Rattle.listing.specs.Starts.{starts}
 use Rattle.machine.specs.Walk.{Run, accepted, refused, unfinished, Log, log, walk}
 use Rattle.rules.specs.Script.{Script}
 use Rattle.demand.specs.Rule.{machine}

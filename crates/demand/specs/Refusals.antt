@@ -8,7 +8,7 @@ use Rattle.answer.specs.Answer.{Answer, MissingCaps, JumpOutOfRange, JumpIntoAn
 use Rattle.answer.specs.Answer.{FallsOffTheEnd, StackExceedsDeclared, IteratorUnderflow, HandlerUnderflow}
 use Rattle.answer.specs.Depths.{Depths, Item}
 use Rattle.code.specs.Width.{widthOf}
-use Rattle.listing.specs.Listing.{Start}
+use Rattle.listing.specs.Starts.{Start}
 use Rattle.machine.specs.Lists.{_∈_}
 use Rattle.rules.specs.Edges.{targets}
 use Rattle.rules.specs.Effects.{needs}

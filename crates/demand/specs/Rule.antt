@@ -11,7 +11,7 @@ use Rattle.answer.specs.Answer.{unless, Answer, MissingCaps, JumpOutOfRange, Ju
 use Rattle.answer.specs.Answer.{Underflow, FallsOffTheEnd, IteratorUnderflow, HandlerUnderflow}
 use Rattle.answer.specs.Depths.{Depths}
 use Rattle.code.specs.Layout.{among}
-use Rattle.listing.specs.Listing.{starts}
+use Rattle.listing.specs.Starts.{starts}
 use Rattle.machine.specs.Machine.{Ruling, denies, gives, Machine}
 use Rattle.rules.specs.Edges.{falls, plain, targets, after, jumped, next}
 use Rattle.rules.specs.Effects.{needs}

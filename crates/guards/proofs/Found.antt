@@ -6,11 +6,11 @@ use Prim.Native.Nat.{ℕ, _+_, _*_, _≤_, _<_}
 use borrow.Author.Tests.{eq-eqb, ne-eqb, lt-ltb, le-ltb}
 use lib.Dec.{eqb, leb, ltb}
 use lib.ListN.{length, getD}
-use Rattle.code.proofs.Widths.{wide}
+use Rattle.code.proofs.Widths.{wide, told-width}
 use Rattle.code.specs.Layout.{among, tagAt, indexAt}
 use Rattle.code.specs.Tags.{LOAD-NAMED, CHAIN, SWITCH, CALL, CALL-THIS-REF, CALL-OP, CALL-LOCAL-REF, CALL-NAMED-REF}
-use Rattle.code.specs.Told.{Told, found, without}
-use Rattle.code.specs.Width.{widthOf, widthAt, toldAt}
+use Rattle.code.specs.Answers.{found, without, toldAt}
+use Rattle.code.specs.Width.{widthOf, widthAt}
 use Rattle.pools.specs.Pools.{chainAt, switchAt, chainWords, switchWords, chainsIn, stepsIn, switchesIn, casesIn}
 use Rattle.rules.proofs.Operands.{index-there}
 use Rattle.rules.specs.Asks.{qualifiable}
@@ -43,11 +43,11 @@ module _ (code : List ℕ) (at : ℕ) where
 
   pub width-found : (w : ℕ) → found w ≡ toldAt code at → true ≡ hasWidth code at
   unfolding hasWidth
-  width-found w e = sym (lt-ltb 0 w (wide widthOf code at w e .some)) ∙ ap (λ (t : Told). ltb 0 (t .value)) e
+  width-found w e = sym (lt-ltb 0 w (wide widthOf code at w e .some)) ∙ sym (ap (ltb 0) (told-width widthOf code at e))
 
   pub no-width : (why : ℕ) → without why ≡ toldAt code at → false ≡ hasWidth code at
   unfolding hasWidth
-  no-width why e = ap (λ (t : Told). ltb 0 (t .value)) e
+  no-width why e = sym (ap (ltb 0) (told-width widthOf code at e))
 
   -- ---- a name
 

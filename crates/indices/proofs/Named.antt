@@ -7,12 +7,17 @@ use native.Mathlib.Omega.{arith}
 use borrow.Author.Tests.{ne-eqb, eqb-true}
 use lib.Dec.{eqb, lit<}
 use lib.ListN.{length}
-use Rattle.code.specs.Layout.{Index, indices, layout, among, indicesFrom, tagAt, indexAt, names, chains, switches, sites}
-use Rattle.code.specs.Tags.{LOAD-NAMED, CALL, CALL-OP, CALL-LOCAL-REF, CALL-NAMED-REF, CALL-THIS-REF, CHAIN, SWITCH, CUSTOM-SYNTAX}
+use Rattle.code.specs.Layout.{Index, indices, layout, among, indicesFrom, tagAt, indexAt, names, chains, switches}
+use Rattle.code.specs.Layout.{sites}
+use Rattle.code.specs.Tags.{LOAD-NAMED, CALL, CALL-OP, CALL-LOCAL-REF, CALL-NAMED-REF, CALL-THIS-REF, CHAIN, SWITCH}
+use Rattle.code.specs.Tags.{CUSTOM-SYNTAX}
 use Rattle.code.specs.Width.{widthOf, widthAt}
 use Rattle.code.proofs.Widths.{width-there}
 use Rattle.pools.specs.Pools.{Pools, chainAt, switchAt, chainsIn, switchesIn}
-use Rattle.indices.specs.Indices.{sizeOf, Tables, refAt, inCode, chainRefs, switchRefs, inRecord, fine, firstBad, Sound, sizesOf, tablesOf, checkedAt}
+use Rattle.pools.specs.Told.{fine}
+use Rattle.indices.specs.Indices.{sizeOf, Tables, refAt, inCode, chainRefs, switchRefs, inRecord, firstBadRef}
+use Rattle.indices.specs.Indices.{tablesOf}
+use Rattle.indices.specs.Checks.{Sound, poolCounts, checkedAt}
 use Rattle.indices.specs.declared.Sizes.{Sizes}
 use Rattle.indices.proofs.Laws.{fine-first, fine-below}
 use Rattle.indices.proofs.Table.{within}
@@ -35,10 +40,11 @@ module _ (code : List ℕ) (at tag pool : ℕ) (has : tagAt code at ≡ tag) (op
       omega (arith, within tag h (opening pool) opens, ap widthOf has, wide .tag, wide .within)
 
   -- and is below the size of the pool, where nothing among the bytes is bad
-  opening-below : (size : ℕ → ℕ) → firstBad size (inCode code at) ≡ fine → indexAt code at < size pool
+  opening-below : (size : ℕ → ℕ) → firstBadRef size (inCode code at) ≡ fine → indexAt code at < size pool
   unfolding inCode
   opening-below size e =
-      fine-below size (map (refAt code at) (indices tag)) (rw has at e) (refAt code at (opening pool)) (mapped (indices tag) opens)
+      fine-below size (map (refAt code at) (indices tag)) (rw has at e) (refAt code at (opening pool))
+      (mapped (indices tag) opens)
     where
       mapped : {i : Index} (is : List Index) → List·Memᴰ i is → List·Memᴰ (refAt code at i) (map (refAt code at) is)
       mapped (j ∷ js) (List·Memᴰ·head q) = List·Memᴰ·head (ap (refAt code at) q)
@@ -114,7 +120,7 @@ switch-read code at has = opening-within code at SWITCH switches has switch-open
 
 -- ---- where none of its own indices is bad
 
-module _ (s : Sizes) (code : List ℕ) (at : ℕ) (own : firstBad (sizeOf s) (inCode code at) ≡ fine) where
+module _ (s : Sizes) (code : List ℕ) (at : ℕ) (own : firstBadRef (sizeOf s) (inCode code at) ≡ fine) where
   -- a chain that it names is below the number of chains, and so with a switch
   pub chain-below : tagAt code at ≡ CHAIN → indexAt code at < s .chains
   unfolding sizeOf
@@ -145,21 +151,21 @@ module _ (s : Sizes) (code : List ℕ) (at : ℕ) (own : firstBad (sizeOf s) (in
 -- ---- where nothing is bad in the pools
 
 module _ (p : Pools) (code : List ℕ) (at : ℕ) (ok : checkedAt p code at ≡ fine) where
-  own : firstBad (sizeOf (sizesOf p)) (inCode code at) ≡ fine
-  own = fine-first (sizeOf (sizesOf p)) (inRecord (tablesOf p) code at) (inCode code at) ok
+  own : firstBadRef (sizeOf (poolCounts p)) (inCode code at) ≡ fine
+  own = fine-first (sizeOf (poolCounts p)) (inRecord (tablesOf p) code at) (inCode code at) ok
 
   -- a chain that an instruction names is there
   pub chain-there : tagAt code at ≡ CHAIN → indexAt code at < chainsIn (p .chains)
-  chain-there = chain-below (sizesOf p) code at own
+  chain-there = chain-below (poolCounts p) code at own
 
   -- and so is a switch
   pub switch-there : tagAt code at ≡ SWITCH → indexAt code at < switchesIn (p .switches)
-  switch-there = switch-below (sizesOf p) code at own
+  switch-there = switch-below (poolCounts p) code at own
 
   -- and a name by whose flag its rights go
   pub name-there : among (tagAt code at) qualifiable ≡ true → indexAt code at < length (p .names)
-  name-there = name-below (sizesOf p) code at own
+  name-there = name-below (poolCounts p) code at own
 
   -- custom syntax is never fine
   pub no-site : tagAt code at ≡ CUSTOM-SYNTAX → ⊥
-  no-site has = omega (arith, site-below (sizesOf p) code at own has)
+  no-site has = omega (arith, site-below (poolCounts p) code at own has)

@@ -13,11 +13,12 @@ use Rattle.code.specs.Tags.{SWITCH}
 use Rattle.code.specs.Width.{widthOf, widthAt}
 use Rattle.code.proofs.Among.{among-member}
 use Rattle.code.proofs.Widths.{width-there}
-use Rattle.listing.specs.Listing.{Start, starts, startsBefore}
+use Rattle.listing.specs.Starts.{Start, starts, startsBefore}
 use Rattle.listing.proofs.Before.{before-on, before-stop, cut}
 use Rattle.listing.proofs.Starts.{listed-start, start-wide, start-next}
 use Rattle.pools.specs.Pools.{switchAt}
-use Rattle.pools.specs.Sizes.{maxCode, maxTargets}
+use Rattle.pools.specs.Sizes.{maxCode}
+use Rattle.pools.specs.Good.{maxTargets}
 use Rattle.pools.proofs.Most.{room-small}
 use Rattle.rules.specs.Edges.{jumping, armsOf, targetsOf, falls}
 use Rattle.machine.specs.Lists.{sumOf}

@@ -12,7 +12,7 @@ use Rattle.answer.specs.Depths.{Depths}
 use Rattle.demand.specs.Rule.{needsTest, rule}
 use Rattle.demand.specs.Span.{Span}
 use Rattle.machine.specs.Machine as machine
-use Rattle.marks.specs.Marks.{bitAt, isOne}
+use Rattle.marks.specs.Places.{bitAt, isOne}
 use Rattle.rules.specs.declared.Effect.{Effect}
 use Rattle.rules.specs.Edges.{falls, plain, afterOf, jumpedOf, after, jumped, next}
 use Rattle.rules.specs.Script.{Script, tagOf}

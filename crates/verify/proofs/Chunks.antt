@@ -15,7 +15,7 @@ use Rattle.verify.proofs.Walkable.{before-walk}
 use Rattle.code.specs.Layout.{among}
 use Rattle.code.specs.Width.{widthOf}
 use Rattle.code.proofs.Among.{member-among}
-use Rattle.listing.specs.Listing.{Start, starts}
+use Rattle.listing.specs.Starts.{Start, starts}
 use Rattle.listing.proofs.Starts.{start-listed}
 use Rattle.demand.specs.Span.{InCode, T, E, Span}
 use Rattle.opening.proofs.Tests.{span-exactly, room-exactly}

@@ -8,9 +8,8 @@ use mathlib.Core.Path.{_≡_}
 use Prim.Native.Nat.{ℕ}
 use lib.ListN.{length, replicate}
 use Rattle.answer.specs.Answer.{noChunk, numbered, Accepted, Verdict}
-use Rattle.before.specs.Before.{Test, beforeStores, afterStores}
+use Rattle.before.specs.Before.{Test, beforeStores, afterStores, marksOf}
 use Rattle.before.specs.Input.{Input}
-use Rattle.before.specs.Memory.{marksOf}
 use Rattle.demand.specs.Span.{Span}
 use Rattle.judging.specs.Judging.{Judgement, Passed, Refused, JudgedAll, judgeAll}
 use Rattle.marks.specs.Marks.{total}

@@ -16,7 +16,7 @@ use Rattle.code.specs.Width.{widthOf}
 use Rattle.demand.specs.Refusals.{Real, Exceeds}
 use Rattle.demand.specs.Span.{InCode, T, E, Span, chunkAt}
 use Rattle.demand.specs.Writing.{Writing}
-use Rattle.listing.specs.Listing.{Start}
+use Rattle.listing.specs.Starts.{Start}
 use Rattle.rules.specs.Script.{Script}
 use Rattle.verify.specs.Accounts.{Filled}
 use Rattle.verify.specs.Call.{Memory}

@@ -10,9 +10,9 @@ use Prim.Native.Nat.{ℕ, _+_, _*_, _^_, _≤_, _<_}
 use lib.Dec.{leb, ltb}
 use lib.ListN.{length, replicate}
 use Rattle.answer.specs.Answer.{noChunk, numbered, Accepted, Verdict}
-use Rattle.before.specs.Before.{Test, beforeChunks}
+use Rattle.before.specs.Before.{Test}
+use Rattle.before.specs.Calls.{beforeChunks, marksAfter}
 use Rattle.before.specs.Input.{Input}
-use Rattle.before.specs.Memory.{marksAfter}
 use Rattle.demand.specs.Span.{Span}
 use Rattle.judging.specs.Judges.{mostReached, mostTaken}
 use Rattle.judging.specs.Judging.{Judgement, Passed, Refused, JudgedAll, judgeAll}

@@ -66,7 +66,8 @@ use denote.Triple.Table.{entered, cited}
 use denote.Triple.Walked.{says, Stays, stay-none, stay-none-slice, stay-slice, walkOf, goes-none, goes-none-slice}
 use denote.Triple.Walked.{goes-slice, Walks, ends-at, walked, walk-meets}
 use denote.Exit.{yes}
-use Rattle.before.specs.Input.{Input, input}
+use Rattle.before.specs.Input.{Input}
+use Rattle.before.specs.Parameters.{input}
 use Rattle.answer.specs.declared.verdict.Verdict.{Verdict}
 use Rattle.demand.specs.Span.{Span}
 use Rattle.rules.specs.FromLists.{script}
