@@ -7,8 +7,7 @@ use Prim.Native.Nat.{ℕ, _+_, _/_, _≤_}
 use native.Mathlib.Omega.{arith}
 use borrow.Author.Tests.{eqb-true, ltb-false}
 use lib.Dec.{ltb, eqb}
-use Rattle.indices.specs.Indices.{tables}
-use Rattle.indices.specs.Checks.{Sound}
+use Rattle.indices.specs.Checks.{tables, Sound}
 use Rattle.indices.specs.declared.Sizes as counted
 use Rattle.pools.specs.Good.{GoodTables, Within}
 use Rattle.pools.specs.Pools.{chainsIn, switchesIn}

@@ -6,17 +6,15 @@
 use mathlib.Core.List.{List, [], _∷_, _++_}
 use Prim.Native.Nat.{ℕ, zero, suc, _+_, _*_}
 use lib.ListN.{getD}
-use Rattle.code.specs.ByTag.{Row, _for_, lookUp}
-use Rattle.code.specs.Tags.{ROTATE, CURRY, CALL-FN-PTR, CALL-FN-PTR-CAPTURE, CALL-FN-PTR-METHOD}
-use Rattle.code.specs.Tags.{CALL-FN-PTR-ON-THIS, UNWIND-TO, STATEMENT, SHARE, SHARE-NAMED, LOAD-SHARED}
-use Rattle.code.specs.Tags.{LOAD-SHARED-NAMED, ASSIGN-THIS-OP, MAKE-CLOSURE, LOAD-CONST, LOAD-LOCAL, LOAD-NAMED}
-use Rattle.code.specs.Tags.{CHAIN, MAKE-ARRAY, MAKE-MAP, SWITCH, CUSTOM-SYNTAX, ASSIGN-NAMED, IMPORT}
-use Rattle.code.specs.Tags.{CALL, CALL-THIS-REF, CALL-FN-PTR-ON-LOCAL, CALL-FN-PTR-ON-NAMED}
-use Rattle.code.specs.Tags.{JUMP, SKIP-IF-NOT-UNIT, ITER-NEXT, PUSH-HANDLER, EXPORT-LOCAL, EXPORT-NAMED}
-use Rattle.code.specs.Tags.{ASSIGN-LOCAL, ASSIGN-NAMED-OP, CALL-OP, CALL-LOCAL-REF, CALL-NAMED-REF}
-use Rattle.code.specs.Tags.{ITER-NEXT-INDEXED, PUSH-HANDLER-VAR, ASSIGN-LOCAL-OP}
-use Rattle.code.specs.Tags.{jumpIfs, stores, declares, checks}
-unfoldable pub use Rattle.code.specs.ByTag.{among}
+use Rattle.code.specs.Tags.{Row, _for_, lookUp, ROTATE, CURRY, CALL-FN-PTR, CALL-FN-PTR-CAPTURE}
+use Rattle.code.specs.Tags.{CALL-FN-PTR-METHOD, CALL-FN-PTR-ON-THIS, UNWIND-TO, STATEMENT, SHARE, SHARE-NAMED}
+use Rattle.code.specs.Tags.{LOAD-SHARED, LOAD-SHARED-NAMED, ASSIGN-THIS-OP, MAKE-CLOSURE, LOAD-CONST, LOAD-LOCAL}
+use Rattle.code.specs.Tags.{LOAD-NAMED, CHAIN, MAKE-ARRAY, MAKE-MAP, SWITCH, CUSTOM-SYNTAX, ASSIGN-NAMED, IMPORT}
+use Rattle.code.specs.Tags.{CALL, CALL-THIS-REF, CALL-FN-PTR-ON-LOCAL, CALL-FN-PTR-ON-NAMED, JUMP}
+use Rattle.code.specs.Tags.{SKIP-IF-NOT-UNIT, ITER-NEXT, PUSH-HANDLER, EXPORT-LOCAL, EXPORT-NAMED, ASSIGN-LOCAL}
+use Rattle.code.specs.Tags.{ASSIGN-NAMED-OP, CALL-OP, CALL-LOCAL-REF, CALL-NAMED-REF, ITER-NEXT-INDEXED}
+use Rattle.code.specs.Tags.{PUSH-HANDLER-VAR, ASSIGN-LOCAL-OP, jumpIfs, stores, declares, checks}
+unfoldable pub use Rattle.code.specs.Tags.{among}
 
 -- a jump's target, of four bytes; a count of one byte, or of two; an index into a pool, or a number that nobody checks
 -- here, as a slot or a line, of two

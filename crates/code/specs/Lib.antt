@@ -1,5 +1,4 @@
 pub mod Width
-pub mod ByTag
 pub mod Tags
 pub mod Layout
 pub mod Answers

@@ -18,6 +18,10 @@ unfoldable pub checkedTold : Checked → Told
 checkedTold Fine = fine
 checkedTold (Bad index pool) = badRef (into pool index)
 
+-- the tables that the parameters of a call lend
+abbrev pub tables : (chains steps switches cases : List ℕ) → Tables
+tables chains steps switches cases = record { chains = chains; steps = steps; switches = switches; cases = cases }
+
 -- the sizes are those of the tables, and every chain's steps and every switch's cases lie within theirs
 pub record Sound (sizes : Sizes) (t : Tables) : Type 0 where
   pub chains-counted : sizes .chains ≡ chainsIn (t .chains)

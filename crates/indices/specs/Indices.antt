@@ -8,12 +8,10 @@ use Prim.Native.Nat.{ℕ, _+_}
 use lib.Dec.{eqb, leb, ltb}
 use Rattle.code.specs.Layout.{Index, indices, tagAt, indexAt, little}
 use Rattle.code.specs.Layout.{constants, names, operators, opAssignments, chains, switches}
-use Rattle.code.specs.Tags.{CHAIN, SWITCH}
+use Rattle.code.specs.Tags.{byte, CHAIN, SWITCH}
 use Rattle.pools.specs.Pools.{Pools, Chain, Step, Switch, Case, chainAt, switchAt, stepsOf, casesOf}
 use Rattle.pools.specs.Told.{Told, fine}
 use Rattle.indices.specs.declared.Sizes.{Sizes}
-
--- ---- one reference
 
 -- an index, and the number of the pool that it points into
 pub record Ref : Type 0 where
@@ -33,8 +31,6 @@ sizeOf s pool =
     (cond (eqb pool chains) (s .chains)
     (cond (eqb pool switches) (s .switches) 0)))))
 
--- ---- the references of an instruction
-
 -- the tables of the records that an instruction can name
 pub record Tables : Type 0 where
   pub chains : List ℕ
@@ -42,11 +38,8 @@ pub record Tables : Type 0 where
   pub switches : List ℕ
   pub cases : List ℕ
 
-abbrev pub tables : (chains steps switches cases : List ℕ) → Tables
-tables chains steps switches cases = record { chains = chains; steps = steps; switches = switches; cases = cases }
-
 abbrev pub tablesOf : Pools → Tables
-tablesOf p = tables (p .chains) (p .steps) (p .switches) (p .cases)
+tablesOf p = record { chains = p .chains; steps = p .steps; switches = p .switches; cases = p .cases }
 
 -- those among its bytes
 abbrev pub refAt : List ℕ → ℕ → Index → Ref
@@ -84,15 +77,13 @@ switchRefs cases s = flatMap caseRefs (casesOf cases s)
 -- matters
 unfoldable pub inRecord : Tables → List ℕ → ℕ → List Ref
 inRecord t code at =
-    cond (eqb (tagAt code at) CHAIN) (chainRefs (t .steps) (chainAt (t .chains) (indexAt code at)))
-    (cond (eqb (tagAt code at) SWITCH) (switchRefs (t .cases) (switchAt (t .switches) (indexAt code at)))
+    cond (eqb (tagAt code at) (byte CHAIN)) (chainRefs (t .steps) (chainAt (t .chains) (indexAt code at)))
+    (cond (eqb (tagAt code at) (byte SWITCH)) (switchRefs (t .cases) (switchAt (t .switches) (indexAt code at)))
     [])
 
 -- all of them
 abbrev pub refs : Tables → List ℕ → ℕ → List Ref
 refs t code at = inCode code at ++ inRecord t code at
-
--- ---- the answer
 
 -- BadIndex: kind 6, with the index and the pool
 abbrev pub badRef : Ref → Told

@@ -6,8 +6,8 @@ ghost use mathlib.Core.Path.{_≡_};
 ghost use mathlib.Core.List.{[], _∷_};
 ghost use Prim.Native.Nat.{_<_};
 ghost use Rattle.code.specs.Width.{widthAt};
-ghost use Rattle.indices.specs.Indices.{firstBadRef, into, refs, sizeOf, tables};
-ghost use Rattle.indices.specs.Checks.{Sound, checkedTold};
+ghost use Rattle.indices.specs.Indices.{firstBadRef, into, refs, sizeOf};
+ghost use Rattle.indices.specs.Checks.{tables, Sound, checkedTold};
 
 mod fields;
 pub mod pool;

@@ -8,8 +8,8 @@ use borrow.Author.Needs.{needs}
 use Rattle.code.specs.Width.{widthOf}
 use Rattle.code.proofs.Widths.{width-there}
 use Rattle.pools.specs.Told.{fine}
-use Rattle.indices.specs.Indices.{Tables, tables, sizeOf, inCode, inRecord, refs, firstBadRef}
-use Rattle.indices.specs.Checks.{checkedTold}
+use Rattle.indices.specs.Indices.{Tables, sizeOf, inCode, inRecord, refs, firstBadRef}
+use Rattle.indices.specs.Checks.{tables, checkedTold}
 use Rattle.indices.proofs.Laws.{goes-on, stops}
 use Rattle.indices.proofs.Named.{chain-read, switch-read, chain-entry, switch-entry, chain-record, switch-record, no-record}
 use Rattle.indices.proofs.check_indices.Statement.{statement}
