@@ -2,15 +2,15 @@
 -- an offset for 5, 6, 9 to 12, 15, 16 and a walk's 4; unused are 0", and the table of kinds.
 use mathlib.Core.Option.{Option, none, some}
 use Prim.Native.Nat.{ℕ}
-use Rattle.answer.specs.declared.verdict.Verdict.{Verdict}
-use Rattle.answer.specs.declared.Answer.{Answer}
+pub use Rattle.answer.specs.declared.Answer.{Answer}
+pub use Rattle.answer.specs.declared.Answer.the-variants.{Accepted, TooLarge, BadTable, NoRoom, MissingCaps}
+pub use Rattle.answer.specs.declared.Answer.the-variants.{Undecodable, BadIndex, ChunkOutOfRange, Misaligned}
+pub use Rattle.answer.specs.declared.Answer.the-variants.{JumpOutOfRange, JumpIntoAnInstruction, DepthConflict}
+pub use Rattle.answer.specs.declared.Answer.the-variants.{Underflow, FallsOffTheEnd, StackExceedsDeclared}
+pub use Rattle.answer.specs.declared.Answer.the-variants.{IteratorUnderflow, HandlerUnderflow}
 use Rattle.answer.specs.declared.Outcome.{Outcome}
 use Rattle.answer.specs.declared.Outcome.the-variants.{Passed, Refused}
-use Rattle.answer.specs.declared.Answer.the-variants.{Accepted, TooLarge, BadTable, NoRoom, MissingCaps}
-use Rattle.answer.specs.declared.Answer.the-variants.{Undecodable, BadIndex, ChunkOutOfRange, Misaligned}
-use Rattle.answer.specs.declared.Answer.the-variants.{JumpOutOfRange, JumpIntoAnInstruction, DepthConflict}
-use Rattle.answer.specs.declared.Answer.the-variants.{Underflow, FallsOffTheEnd, StackExceedsDeclared}
-use Rattle.answer.specs.declared.Answer.the-variants.{IteratorUnderflow, HandlerUnderflow}
+pub use Rattle.answer.specs.declared.verdict.Verdict.{Verdict}
 
 -- the chunk of an answer that is about none: before the chunks, and on acceptance
 abbrev pub noChunk : ℕ
@@ -18,29 +18,13 @@ noChunk = 4294967295
 
 -- a refusal counts nothing
 abbrev pub refusal : (kind chunk at p q : ℕ) → Verdict
-refusal kind chunk at p q = record {
-  kind = kind;
-  chunk = chunk;
-  at = at;
-  p = p;
-  q = q;
-  instructions = 0;
-  reached = 0;
-  taken = 0;
-}
+refusal kind chunk at p q =
+    record { kind = kind; chunk = chunk; at = at; p = p; q = q; instructions = 0; reached = 0; taken = 0 }
 
 -- the numbers of an answer about a chunk; `noChunk` where it came before the chunks
 unfoldable pub numbered : (chunk : ℕ) → Answer → Verdict
-numbered chunk (Accepted instructions reached taken) = record {
-  kind = 0;
-  chunk = noChunk;
-  at = 0;
-  p = 0;
-  q = 0;
-  instructions = instructions;
-  reached = reached;
-  taken = taken;
-}
+numbered chunk (Accepted n reached taken) =
+    record { kind = 0; chunk = noChunk; at = 0; p = 0; q = 0; instructions = n; reached = reached; taken = taken }
 numbered chunk (TooLarge limit) = refusal 1 chunk 0 limit 0
 numbered chunk (BadTable table entry) = refusal 2 chunk 0 table entry
 numbered chunk (NoRoom needed buffer) = refusal 3 chunk 0 needed buffer

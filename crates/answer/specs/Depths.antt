@@ -1,9 +1,9 @@
--- Depths: how many operands, iterators and handlers there are. An item: a place that control comes to, with the depths there.
--- Document 01: "The walk starts with (entry, 0, 0, 0)"; "dropped if all three depths agree, else 11".
+-- Depths: how many operands, iterators and handlers there are. An item: a place that control comes to, with the depths
+-- there. Document 01: "The walk starts with (entry, 0, 0, 0)"; "dropped if all three depths agree, else 11".
 use mathlib.Core.Bool.{Bool, _&&_}
 use Prim.Native.Nat.{ℕ}
 use lib.Dec.{eqb}
-use Rattle.answer.specs.declared.Depths.{Depths}
+pub use Rattle.answer.specs.declared.Depths.{Depths}
 
 abbrev pub zeros : Depths
 zeros = record { operands = 0; iterators = 0; handlers = 0 }

@@ -7,18 +7,18 @@ use mathlib.Core.Logic.{_≢_}
 use mathlib.Core.Path.{_≡_}
 use Prim.Native.Nat.{ℕ, _<_}
 use lib.ListN.{length, getD}
+use Rattle.answer.specs.Answer.{Verdict}
 use Rattle.before.specs.Input.{Input}
-use Rattle.bench.specs.Bench.{Row, input, lent}
-use Rattle.listing.specs.Listing.{starts}
-use Rattle.answer.specs.declared.verdict.Verdict.{Verdict}
-use Rattle.rules.specs.Script.{Script}
 use Rattle.demand.specs.Span.{Span}
+use Rattle.listing.specs.Starts.{starts}
+use Rattle.rules.specs.Script.{Script}
 use Rattle.verify.specs.Accounts.{sumBelow, Measured}
 use Rattle.verify.specs.Call.{Memory, Result, Calls}
+use Rattle.bench.specs.Bench.{BenchRow, askedBy, lent}
 
 -- a call on what a row asks may come to this verdict and this memory
-abbrev pub Comes : Row → Verdict → Memory → Type 0
-Comes row r after = Calls (input row) (row .spans) lent r after
+abbrev pub CallsOn : BenchRow → Verdict → Memory → Type 0
+CallsOn row r after = Calls (askedBy row) (row .spans) lent r after
 
 -- no buffer is as it was
 pub record ChangesAll (before after : Memory) : Type 0 where

@@ -1,6 +1,6 @@
-// Document 01's bench cases, and the three on which frauds show, asked of the verifier in the order of the table in specs/Bench.
-// One line for each: kind, chunk, at, p, q, instructions, reached, taken.
-// `ask` answers what the definition of the whole call says, and the table's rows are proved of that definition.
+// Document 01's bench cases, and the three on which frauds show, asked of the verifier in the order of the table in
+// specs/Bench. One line for each: kind, chunk, at, p, q, instructions, reached, taken. `ask` answers what the
+// definition of the whole call says, and the table's rows are proved of that definition.
 ghost use mathlib.Core.Path.{_≡_};
 ghost use Rattle.bench.specs.Bench.{asked, lent};
 ghost use Rattle.verify.specs.Call.{result};
@@ -17,7 +17,8 @@ fn ask(
     declared: &[u16],
 ) -> Verdict
     ensures { λ r. ⌜ r ≡ result
-        (asked rights (now (constants .entry)) (now (code .entry)) (spansOf (now (entries .entry)) (now (ends .entry)) (now (declared .entry))))
+        (asked rights (now (constants .entry)) (now (code .entry))
+        (spansOf (now (entries .entry)) (now (ends .entry)) (now (declared .entry))))
         (spansOf (now (entries .entry)) (now (ends .entry)) (now (declared .entry))) lent .verdict ⌝ }
 {
     let names: [u8; 0] = [];

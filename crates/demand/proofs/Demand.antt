@@ -17,19 +17,17 @@ use Rattle.answer.specs.Answer.{unless}
 use Rattle.answer.specs.declared.Answer.{Answer}
 use Rattle.answer.specs.declared.Answer.the-variants.{StackExceedsDeclared}
 use Rattle.answer.specs.declared.Depths.{Depths}
-use Rattle.demand.specs.Chunk.{spanTest, roomTest, openTest, Judged, passes, fails, heightTest, measured}
-use Rattle.demand.specs.Chunk.{walked, judgeChunk, Accepted, redeclared, BeforeWalk}
+use Rattle.demand.specs.Chunk.{spanTest, roomTest, openTest, Judged, passes, fails, heightTest, measured, walked}
+use Rattle.demand.specs.Chunk.{judgeChunk}
+use Rattle.demand.specs.BeforeWalk.{WalkAccepts, redeclared, BeforeWalk}
 use Rattle.answer.specs.Depths.{Item}
-use Rattle.demand.specs.Span.{T, E, chunkStarts}
+use Rattle.demand.specs.Span.{T, E, chunkStarts, Span}
 use Rattle.rules.specs.Edges.{degree}
-use Rattle.demand.specs.Measures.{Measures}
-use Rattle.demand.specs.Paths.{DepthOnPath, at, just-after}
+use Rattle.demand.specs.Writing.{Measures, just-after, at, DepthOnPath, Writing}
 use Rattle.demand.specs.Refusals.{Real, Exceeds}
 use Rattle.demand.specs.Rule.{rule, judge, machine}
 use Rattle.rules.specs.Script.{Script}
-use Rattle.demand.specs.Span.{Span}
 use Rattle.machine.specs.Walk.{Book, Run, accepted, refused, unfinished, Log, log, walk}
-use Rattle.demand.specs.Writing.{Writing}
 use Rattle.machine.proofs.Ends.{Bounded, ends, unfinished-bounded, accepted-bounded}
 use Rattle.machine.proofs.Exactly.{Accepts, exactly}
 use Rattle.demand.proofs.Keeps.{keeps-laws}
@@ -169,10 +167,10 @@ module _ (S : Script) (span : Span) {records work : ℕ} (B : BeforeWalk S span 
   machine-writing a = exact .0 (record { book = a .book; ran = a .ran; low = a .low })
 
   -- Theorem 2. "It is accepted exactly when [...] depths can be written beside some of its instruction starts so that [...]."
-  pub accepted-exactly : Accepted S span ↔ Writing S span
+  pub accepted-exactly : WalkAccepts S span ↔ Writing S span
   accepted-exactly = (λ a. written-of S span (machine-writing (ran-so (a .so)) .1), λ w. back (exact .1 (writing-of S span w)))
     where
-      back : Accepts (machine S span) units (span .declared) → Accepted S span
+      back : Accepts (machine S span) units (span .declared) → WalkAccepts S span
       back a = record { height = _; reached = _; taken = _; so = passes-so (a .book) (a .ran) (a .low) }
 
   -- Theorems 3 and 4. "The height answered is then the largest such depth on any path from the entry, and some path attains
@@ -273,20 +271,20 @@ module _ (S : Script) (span : Span) where
   }
 
   pub least-height : {records work : ℕ} → BeforeWalk S span records work → {h r t : ℕ} → walked S span ≡ passes h r t → (declared : ℕ)
-      → Accepted S (redeclared span declared) ↔ (h ≤ declared)
+      → WalkAccepts S (redeclared span declared) ↔ (h ≤ declared)
   unfolding units
   least-height B {h} {r} {t} e declared = (to, back)
     where
       first : Ran S span B h r t
       first = ran-so S span B e
 
-      to : Accepted S (redeclared span declared) → h ≤ declared
+      to : WalkAccepts S (redeclared span declared) → h ≤ declared
       to other =
           let then = ran-so S (redeclared span declared) (redeclared-before declared B) (other .so) in
           let same : then .book ≡ first .book = cc (then .ran, same-walk declared, first .ran) in
           omega (arith, then .low, first .numbers .0, ap (λ (b : Book Log). b .height) same)
 
-      back : h ≤ declared → Accepted S (redeclared span declared)
+      back : h ≤ declared → WalkAccepts S (redeclared span declared)
       back low = record {
         height = _;
         reached = _;

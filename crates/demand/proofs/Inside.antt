@@ -12,18 +12,17 @@ use lib.ListN.{length}
 use Rattle.code.specs.Layout.{among}
 use Rattle.code.specs.Width.{widthOf}
 use Rattle.code.proofs.Among.{among-member, member-among}
-use Rattle.listing.specs.Listing.{starts}
+use Rattle.listing.specs.Starts.{starts}
 use Rattle.listing.proofs.Starts.{listed-start, start-listed, start-wide, start-apart, start-next}
 use Rattle.listing.proofs.Before.{start-before}
 use Rattle.answer.specs.declared.Answer.{Answer}
 use Rattle.answer.specs.declared.Answer.the-variants.{JumpOutOfRange, JumpIntoAnInstruction}
-use Rattle.demand.specs.Chunk.{BeforeWalk}
+use Rattle.demand.specs.BeforeWalk.{BeforeWalk}
 use Rattle.rules.specs.Edges.{next}
-use Rattle.demand.specs.Span.{chunkStarts}
+use Rattle.demand.specs.Span.{chunkStarts, Span}
 use Rattle.machine.specs.Lists.{_∈_}
 use Rattle.demand.specs.Rule.{machine, judge}
 use Rattle.rules.specs.Script.{Script}
-use Rattle.demand.specs.Span.{Span}
 use Rattle.demand.specs.Span as spans
 use Rattle.machine.proofs.Laws.{InChunk}
 use Rattle.answer.proofs.Apart.{zero≢one}

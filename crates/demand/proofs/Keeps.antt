@@ -9,27 +9,27 @@ use native.Mathlib.Omega.{arith}
 use lib.Dec.{eqb}
 use lib.ListN.{length, length-map}
 use Rattle.code.specs.Layout.{among}
-use Rattle.code.specs.Tags.{ITER-INIT, ITER-DROP, POP-HANDLER, iterNexts, pushHandlers}
+use Rattle.code.specs.Tags.{byte, bytes, ITER-INIT, ITER-DROP, POP-HANDLER, iterNexts, pushHandlers}
 use Rattle.code.specs.Width.{widthOf, widthAt}
 use Rattle.code.proofs.Among.{member-among}
 use Rattle.listing.proofs.Starts.{start-wide}
 use Rattle.answer.specs.declared.Answer.{Answer}
 use Rattle.answer.specs.declared.Depths.{Depths}
-use Rattle.demand.specs.Chunk.{BeforeWalk}
+use Rattle.demand.specs.BeforeWalk.{BeforeWalk}
 use Rattle.answer.specs.Depths.{Item}
 use Rattle.rules.specs.Edges.{falls, targets, afterOf, jumpedOf, after, next, degree}
-use Rattle.demand.specs.Span.{chunkStarts}
+use Rattle.demand.specs.Span.{chunkStarts, Span}
 use Rattle.rules.specs.Effects.{pops, pushes}
 use Rattle.machine.specs.Lists.{_∈_, here, there}
 use Rattle.machine.specs.Machine.{Ruling, fallTo}
 use Rattle.demand.specs.Rule.{allTargets, rule, machine}
 use Rattle.rules.specs.Script.{Script, tagOf}
-use Rattle.demand.specs.Span.{Span}
 use Rattle.rules.proofs.Amounts.{pushes-at-most-one, pushes-none}
 use Rattle.demand.proofs.Inside.{inside, judged, entry-starts, next-above, next-least, next-starts, listed}
 use Rattle.machine.proofs.Laws.{InChunk, Given, Near, Carried, Fair, Laws}
 use Rattle.machine.proofs.Lists.{∈-cases, map-∈}
-use Rattle.demand.proofs.Says.{jumpTo, jumps, fall, Says, no-rights, no-operands, no-iterator, no-handler, no-next, goes, says}
+use Rattle.demand.proofs.Says.{jumpTo, jumps, fall, Says, no-rights, no-operands, no-iterator, no-handler}
+use Rattle.demand.proofs.Says.{no-next, goes, says}
 
 -- the targets of a listed place are among all of them
 target-listed : (S : Script) (ps : List ℕ) {p t : ℕ} → p ∈ ps → t ∈ targets S p → t ∈ allTargets S ps
@@ -49,8 +49,8 @@ near-after : (tag pops pushes : ℕ) (d : Depths) → pushes ≤ 1 → Near d (a
 unfolding afterOf
 near-after tag pops pushes d one = record {
   operands = omega arith;
-  iterators = up-or-down (eqb tag ITER-INIT) (eqb tag ITER-DROP) (d .iterators);
-  handlers = up-or-down (among tag pushHandlers) (eqb tag POP-HANDLER) (d .handlers);
+  iterators = up-or-down (eqb tag (byte ITER-INIT)) (eqb tag (byte ITER-DROP)) (d .iterators);
+  handlers = up-or-down (among tag (bytes pushHandlers)) (eqb tag (byte POP-HANDLER)) (d .handlers);
 }
   where
     up-or-down : (up down : Bool) (n : ℕ) → cond up (n + 1) (cond down (n - 1) n) ≤ n + 1
@@ -61,8 +61,8 @@ near-after tag pops pushes d one = record {
 near-jumped : (tag : ℕ) (d a : Depths) → Near d a → Near d (jumpedOf tag d a)
 unfolding jumpedOf
 near-jumped tag d a h =
-    either (Near d) (among tag iterNexts) (record { operands = omega arith; iterators = omega arith; handlers = omega arith })
-    (either (Near d) (among tag pushHandlers) (record { operands = omega arith; iterators = omega arith; handlers = omega arith }) h)
+    either (Near d) (among tag (bytes iterNexts)) (record { operands = omega arith; iterators = omega arith; handlers = omega arith })
+    (either (Near d) (among tag (bytes pushHandlers)) (record { operands = omega arith; iterators = omega arith; handlers = omega arith }) h)
 
 -- ---- what the rule gives at an in-chunk start
 

@@ -1,7 +1,8 @@
 -- The rule of one instruction, case by case: it denies by the first test that fails, with that test's values; or the
 -- instruction has all that it needs, and control goes where its edges lead.
 use mathlib.Core.Bool.{Bool, true, false, not, _&&_, cond}
-use mathlib.Core.List.{List, [], _∷_, _++_, map, append-nil, Memᴰ·append-left, Memᴰ·append-right, List·Memᴰ·append-cases, List·Memᴰ·eq-of-singleton}
+use mathlib.Core.List.{List, [], _∷_, _++_, map, append-nil, Memᴰ·append-left, Memᴰ·append-right}
+use mathlib.Core.List.{List·Memᴰ·append-cases, List·Memᴰ·eq-of-singleton}
 use mathlib.Core.Logic.{_⊎_, inl, inr, _↔_}
 use mathlib.Core.Option.{Option, none, some}
 use mathlib.Core.Path.{_≡_, refl, ap}
@@ -10,11 +11,12 @@ use native.Mathlib.Omega.{arith}
 use borrow.Author.Tests.{ltb-true, ltb-false, leb-true, leb-false}
 use lib.Dec.{ltb, leb}
 use Rattle.code.specs.Layout.{among}
-use Rattle.code.specs.Tags.{RETURN, THROW, JUMP, SWITCH}
+use Rattle.code.specs.Tags.{bytes, RETURN, THROW, JUMP, SWITCH}
 use Rattle.code.proofs.Among.{among-member, member-among}
 use Rattle.answer.specs.Answer.{unless}
 use Rattle.answer.specs.declared.Answer.{Answer}
-use Rattle.answer.specs.declared.Answer.the-variants.{MissingCaps, Underflow, FallsOffTheEnd, IteratorUnderflow, HandlerUnderflow}
+use Rattle.answer.specs.declared.Answer.the-variants.{MissingCaps, Underflow, FallsOffTheEnd, IteratorUnderflow}
+use Rattle.answer.specs.declared.Answer.the-variants.{HandlerUnderflow}
 use Rattle.answer.specs.declared.Depths.{Depths}
 use Rattle.answer.specs.Depths.{Item}
 use Rattle.rules.specs.Edges.{jumping, falls, plain, targets, after, jumped, next, edges}
@@ -132,17 +134,18 @@ module _ (S : Script) (span : Span) (p : ℕ) (d : Depths) where
 -- a plain instruction falls through
 pub plain-falls : (tag : ℕ) → plain tag ≡ true → falls tag ≡ true
 unfolding plain falls
-plain-falls tag q = go (among tag (RETURN ∷ THROW ∷ JUMP ∷ SWITCH ∷ [])) refl
+plain-falls tag q = go (among tag (bytes (RETURN ∷ THROW ∷ JUMP ∷ SWITCH ∷ []))) refl
   where
-    larger : tag ∈ (RETURN ∷ THROW ∷ JUMP ∷ SWITCH ∷ []) → tag ∈ (RETURN ∷ THROW ∷ SWITCH ∷ jumping)
+    larger : tag ∈ bytes (RETURN ∷ THROW ∷ JUMP ∷ SWITCH ∷ []) → tag ∈ bytes (RETURN ∷ THROW ∷ SWITCH ∷ jumping)
     larger (here e) = here e
     larger (there (here e)) = there (here e)
     larger (there (there (here e))) = there (there (there (here e)))
     larger (there (there (there (here e)))) = there (there (here e))
     larger (there (there (there (there m)))) = absurd (∉-nil m)
 
-    go : (b : Bool) → among tag (RETURN ∷ THROW ∷ JUMP ∷ SWITCH ∷ []) ≡ b → not b ≡ true
+    go : (b : Bool) → among tag (bytes (RETURN ∷ THROW ∷ JUMP ∷ SWITCH ∷ [])) ≡ b → not b ≡ true
     go false e = refl
     go true e =
-        let all = member-among tag (RETURN ∷ THROW ∷ SWITCH ∷ jumping) (larger (among-member tag (RETURN ∷ THROW ∷ JUMP ∷ SWITCH ∷ []) e)) in
+        let falling = among-member tag (bytes (RETURN ∷ THROW ∷ JUMP ∷ SWITCH ∷ [])) e in
+        let all = member-among tag (bytes (RETURN ∷ THROW ∷ SWITCH ∷ jumping)) (larger falling) in
         absurd (zero≢one (cc (ap not all)))

@@ -11,19 +11,21 @@ use lib.Dec.{ltb, leb}
 use Rattle.code.specs.Layout.{among}
 use Rattle.code.specs.Width.{widthOf}
 use Rattle.code.proofs.Among.{member-among}
-use Rattle.listing.specs.Listing.{starts}
+use Rattle.listing.specs.Starts.{starts}
 use Rattle.listing.proofs.Starts.{start-listed}
 use Rattle.answer.specs.declared.Answer.{Answer}
-use Rattle.answer.specs.declared.Answer.the-variants.{MissingCaps, JumpOutOfRange, JumpIntoAnInstruction, Underflow, FallsOffTheEnd, IteratorUnderflow, HandlerUnderflow}
+use Rattle.answer.specs.declared.Answer.the-variants.{MissingCaps, JumpOutOfRange, JumpIntoAnInstruction, Underflow}
+use Rattle.answer.specs.declared.Answer.the-variants.{FallsOffTheEnd, IteratorUnderflow, HandlerUnderflow}
 use Rattle.answer.specs.declared.Depths.{Depths}
 use Rattle.answer.specs.Depths.{Item}
 use Rattle.rules.specs.Edges.{after, edges, falls, plain, targets, next}
 use Rattle.machine.specs.Lists.{_∈_}
 use Rattle.machine.specs.Machine.{Ruling, denies, gives, fallTo}
-use Rattle.demand.specs.Paths as paths
+use Rattle.demand.specs.Writing as paths
 use Rattle.rules.specs.Needs.{Able}
 use Rattle.demand.specs.Refusals as refusals
-use Rattle.demand.specs.Refusals.{Met, lacks, need, Real, lacks-rights, leaves, splits, disagrees, underflows}
+use Rattle.demand.specs.Refusals.{Met, lacks, operandsNeeded, Real, lacks-rights, leaves, splits, disagrees}
+use Rattle.demand.specs.Refusals.{underflows}
 use Rattle.demand.specs.Rule.{rule, judge, machine}
 use Rattle.rules.specs.Script.{Script, tagOf}
 use Rattle.demand.specs.Span.{Span}
@@ -35,7 +37,8 @@ use Rattle.answer.proofs.Apart.{zero≢one}
 use Rattle.machine.proofs.Paths as machine
 use Rattle.machine.proofs.Paths.{leads, Reached, begins, follows, Good, Writing}
 use Rattle.machine.proofs.Refusals as machine-refusals
-use Rattle.demand.proofs.Says.{fall, jumpTo, jumps, Says, no-rights, no-operands, no-iterator, no-handler, no-next, goes, says, edges-given, falls-edge, plain-falls}
+use Rattle.demand.proofs.Says.{fall, jumpTo, jumps, Says, no-rights, no-operands, no-iterator, no-handler}
+use Rattle.demand.proofs.Says.{no-next, goes, says, edges-given, falls-edge, plain-falls}
 
 module _ (S : Script) (span : Span) where
   -- where the rule lets an instruction pass, the instruction is able, what it gives is what stands just after it, and its
@@ -184,7 +187,7 @@ module _ (S : Script) (span : Span) where
     where
       go : Says S span p d (rule S span p d) → Real S span r
       go (no-rights l e) = let same : r ≡ MissingCaps p (lacks S span p) = cc in rw same (lacks-rights met l)
-      go (no-operands z l e) = let same : r ≡ Underflow p (need S span p) (d .operands) = cc in rw same (underflows met z l)
+      go (no-operands z l e) = let same : r ≡ Underflow p (operandsNeeded S span p) (d .operands) = cc in rw same (underflows met z l)
       go (no-iterator z n l e) = let same : r ≡ IteratorUnderflow p = cc in rw same (refusals.no-iterator met z n l)
       go (no-handler z n l e) = let same : r ≡ HandlerUnderflow p = cc in rw same (refusals.no-handler met z n l)
       go (no-next able plainly l e) =

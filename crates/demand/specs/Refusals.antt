@@ -1,23 +1,22 @@
--- When a refusal of a walk is real: which instruction on a path from the entry fails which test, with which values. Document
--- 01, "What comes back": "A kind is given exactly when its test, in its turn, is the first to fail", and the table of kinds.
+-- When a refusal of a walk is real: which instruction on a path from the entry fails which test, with which values.
+-- Document 01, "What comes back": "A kind is given exactly when its test, in its turn, is the first to fail", and the
+-- table of kinds.
 use mathlib.Core.Logic.{_⊎_}
 use mathlib.Core.Path.{_≡_}
 use Prim.Native.Nat.{ℕ, _≤_, _<_}
+use Rattle.answer.specs.Answer.{Answer, MissingCaps, JumpOutOfRange, JumpIntoAnInstruction, DepthConflict, Underflow}
+use Rattle.answer.specs.Answer.{FallsOffTheEnd, StackExceedsDeclared, IteratorUnderflow, HandlerUnderflow}
+use Rattle.answer.specs.Depths.{Depths, Item}
 use Rattle.code.specs.Width.{widthOf}
-use Rattle.listing.specs.Listing.{Start}
-use Rattle.answer.specs.declared.Answer.{Answer}
-use Rattle.answer.specs.declared.Answer.the-variants.{MissingCaps, JumpOutOfRange, JumpIntoAnInstruction, DepthConflict, Underflow, FallsOffTheEnd, StackExceedsDeclared, IteratorUnderflow, HandlerUnderflow}
-use Rattle.answer.specs.declared.Depths.{Depths}
-use Rattle.answer.specs.Depths.{Item}
+use Rattle.listing.specs.Starts.{Start}
+use Rattle.machine.specs.Lists.{_∈_}
 use Rattle.rules.specs.Edges.{targets}
 use Rattle.rules.specs.Effects.{needs}
-use Rattle.machine.specs.Lists.{_∈_}
-use Rattle.demand.specs.Measures.{Measures}
 use Rattle.rules.specs.Needs.{iteratorsNeeded, handlersNeeded, Able}
-use Rattle.demand.specs.Paths.{Path}
 use Rattle.rules.specs.Rights.{required, lacking}
 use Rattle.rules.specs.Script.{Script, tagOf}
 use Rattle.demand.specs.Span.{Span, InChunk}
+use Rattle.demand.specs.Writing.{Measures, Path}
 
 module _ (S : Script) (span : Span) where
   -- an instruction of the chunk, with the depths that a path from the entry brings to it
@@ -28,26 +27,30 @@ module _ (S : Script) (span : Span) where
   abbrev pub lacks : ℕ → ℕ
   lacks p = lacking (required (S .code) (S .pools .names) (S .pools .chains) (S .pools .steps) p) (S .rights)
 
-  abbrev pub need : ℕ → ℕ
-  need p = needs (S .code) (S .pools .chains) p
+  abbrev pub operandsNeeded : ℕ → ℕ
+  operandsNeeded p = needs (S .code) (S .pools .chains) p
 
   pub data Real : Answer → Type 0 where
     -- 4: it lacks these rights
     lacks-rights : {p : ℕ} {d : Depths} → Met p d → 0 < lacks p → Real (MissingCaps p (lacks p))
     -- 9: it has what it needs, and names a target outside the chunk
-    leaves : {p t : ℕ} {d : Depths} → Met p d → Able S p d → t ∈ targets S p → (t < span .entry) ⊎ (span .end ≤ t) → Real (JumpOutOfRange p t)
+    leaves : {p t : ℕ} {d : Depths} → Met p d → Able S p d → t ∈ targets S p → (t < span .entry) ⊎ (span .end ≤ t)
+        → Real (JumpOutOfRange p t)
     -- 10: it has what it needs, and names a target in the chunk at which no instruction starts
-    splits : {p t : ℕ} {d : Depths} → Met p d → Able S p d → t ∈ targets S p → span .entry ≤ t → t < span .end → ¬ Start widthOf (S .code) t
-        → Real (JumpIntoAnInstruction p t)
+    splits : {p t : ℕ} {d : Depths} → Met p d → Able S p d → t ∈ targets S p → span .entry ≤ t → t < span .end
+        → ¬ Start widthOf (S .code) t → Real (JumpIntoAnInstruction p t)
     -- 11: two paths bring different depths to it
     disagrees : {p : ℕ} {d e : Depths} → Met p d → Met p e → ¬ (d ≡ e) → Real (DepthConflict p d e)
     -- 12: it has its rights, and needs more operands than there are
-    underflows : {p : ℕ} {d : Depths} → Met p d → lacks p ≡ 0 → d .operands < need p → Real (Underflow p (need p) (d .operands))
+    underflows : {p : ℕ} {d : Depths} → Met p d → lacks p ≡ 0 → d .operands < operandsNeeded p
+        → Real (Underflow p (operandsNeeded p) (d .operands))
     -- 13: a path runs off the end
     runs-off : {i : Item} → Path S span i → span .end ≤ i .place → Real FallsOffTheEnd
     -- 15, 16: it has its rights and its operands, and needs an iterator, or a handler, where there is none
-    no-iterator : {p : ℕ} {d : Depths} → Met p d → lacks p ≡ 0 → need p ≤ d .operands → d .iterators < iteratorsNeeded (tagOf S p) → Real (IteratorUnderflow p)
-    no-handler : {p : ℕ} {d : Depths} → Met p d → lacks p ≡ 0 → need p ≤ d .operands → d .handlers < handlersNeeded (tagOf S p) → Real (HandlerUnderflow p)
+    no-iterator : {p : ℕ} {d : Depths} → Met p d → lacks p ≡ 0 → operandsNeeded p ≤ d .operands
+        → d .iterators < iteratorsNeeded (tagOf S p) → Real (IteratorUnderflow p)
+    no-handler : {p : ℕ} {d : Depths} → Met p d → lacks p ≡ 0 → operandsNeeded p ≤ d .operands
+        → d .handlers < handlersNeeded (tagOf S p) → Real (HandlerUnderflow p)
 
   -- 14: a whole walk refuses nothing, and the largest depth on the paths is above the declared height
   pub record Exceeds (a : Answer) : Type 0 where

@@ -1,26 +1,24 @@
--- The rule of one instruction at given depths, and the machine of a chunk. Document 01, "Order of the tests": "rights (kind 4,
--- p only what lacks); 12; 15 for ITER_DROP, 16 for POP_HANDLER; then edges, each target tested for 9, then 10, and the
--- fall-through pushed last. ITER_NEXT* tests 15 before its target [...]. A plain instruction whose successor is not before the
--- end gives 13."
+-- The rule of one instruction at given depths, and the machine of a chunk. Document 01, "Order of the tests": "rights
+-- (kind 4, p only what lacks); 12; 15 for ITER_DROP, 16 for POP_HANDLER; then edges, each target tested for 9, then 10,
+-- and the fall-through pushed last. ITER_NEXT* tests 15 before its target [...]. A plain instruction whose successor is
+-- not before the end gives 13."
 use mathlib.Core.Bool.{_&&_, _||_, cond}
 use mathlib.Core.List.{List, [], _∷_, _++_, map}
 use mathlib.Core.Option.{Option, none, some}
 use Prim.Native.Nat.{ℕ}
 use lib.Dec.{ltb, leb}
+use Rattle.answer.specs.Answer.{unless, Answer, MissingCaps, JumpOutOfRange, JumpIntoAnInstruction, DepthConflict}
+use Rattle.answer.specs.Answer.{Underflow, FallsOffTheEnd, IteratorUnderflow, HandlerUnderflow}
+use Rattle.answer.specs.Depths.{Depths}
 use Rattle.code.specs.Layout.{among}
-use Rattle.listing.specs.Listing.{starts}
-use Rattle.answer.specs.Answer.{unless}
-use Rattle.answer.specs.declared.Answer.{Answer}
-use Rattle.answer.specs.declared.Answer.the-variants.{MissingCaps, JumpOutOfRange, JumpIntoAnInstruction, DepthConflict, Underflow, FallsOffTheEnd, IteratorUnderflow, HandlerUnderflow}
-use Rattle.answer.specs.declared.Depths.{Depths}
-use Rattle.rules.specs.Edges.{falls, plain, targets, after, jumped, next}
-use Rattle.demand.specs.Span.{chunkStarts}
-use Rattle.rules.specs.Effects.{needs}
+use Rattle.listing.specs.Starts.{starts}
 use Rattle.machine.specs.Machine.{Ruling, denies, gives, Machine}
+use Rattle.rules.specs.Edges.{falls, plain, targets, after, jumped, next}
+use Rattle.rules.specs.Effects.{needs}
 use Rattle.rules.specs.Needs.{iteratorsNeeded, handlersNeeded}
 use Rattle.rules.specs.Rights.{required, lacking}
 use Rattle.rules.specs.Script.{Script, tagOf}
-use Rattle.demand.specs.Span.{Span}
+use Rattle.demand.specs.Span.{chunkStarts, Span}
 
 -- all targets that these instructions name, in order
 unfoldable pub allTargets : Script → List ℕ → List ℕ

@@ -1,24 +1,60 @@
--- The customer's third demand: "operand, iterator and handler depths can be written beside some of its instruction starts so
--- that the entry has zeros, each edge leads to an in-chunk start bearing precisely the depths the rule gives, each written
--- instruction has the depths and rights it needs, and no operand depth at or just after one exceeds the declared height."
--- Nothing here knows how a chunk is walked.
+-- The customer's third demand, of a chunk that passed every check before its walk: "operand, iterator and handler
+-- depths can be written beside some of its instruction starts so that the entry has zeros, each edge leads to an
+-- in-chunk start bearing precisely the depths the rule gives, each written instruction has the depths and rights it
+-- needs, and no operand depth at or just after one exceeds the declared height. The height answered is then the largest
+-- such depth on any path from the entry, and some path attains it." With it the counts of document 01, "What comes
+-- back": "the starts on some path from the entry; 1 + the edges out of those". Nothing here knows how a chunk is
+-- walked.
+use mathlib.Core.List.{List}
+use mathlib.Core.Logic.{_↔_}
 use mathlib.Core.Option.{Option, some}
 use mathlib.Core.Path.{_≡_}
-use Prim.Native.Nat.{ℕ, _≤_}
-use Rattle.answer.specs.declared.Depths.{Depths}
-use Rattle.answer.specs.Depths.{Item, zeros}
-use Rattle.rules.specs.Edges.{after, edges}
+use Prim.Native.Nat.{ℕ, _+_, _≤_}
+use lib.ListN.{length}
+use Rattle.answer.specs.Depths.{Depths, Item, zeros}
+use Rattle.machine.specs.Lists.{_∈_, NoRepeats, sumOf}
+use Rattle.rules.specs.Edges.{after, edges, degree}
 use Rattle.rules.specs.Needs.{Able}
-use Rattle.machine.specs.Lists.{_∈_}
 use Rattle.rules.specs.Script.{Script}
 use Rattle.demand.specs.Span.{Span, InChunk}
 
--- the depths written beside a place, if any are, and the clauses of the demand in its order
-pub record Writing (S : Script) (span : Span) : Type 0 where
-  pub written : ℕ → Option Depths
-  pub beside-starts : (p : ℕ) (d : Depths) → written p ≡ some d → InChunk S span p
-  pub entry-zeros : written (span .entry) ≡ some zeros
-  pub edges-agree : (p : ℕ) (d : Depths) → written p ≡ some d → (e : Item) → e ∈ edges S p d → written (e .place) ≡ some (e .depths)
-  pub able : (p : ℕ) (d : Depths) → written p ≡ some d → Able S p d
-  pub height-at : (p : ℕ) (d : Depths) → written p ≡ some d → d .operands ≤ span .declared
-  pub height-after : (p : ℕ) (d : Depths) → written p ≡ some d → after S p d .operands ≤ span .declared
+module _ (S : Script) (span : Span) where
+  -- the depths written beside a place, if any are, and the clauses of the demand in its order
+  pub record Writing : Type 0 where
+    pub written : ℕ → Option Depths
+    pub beside-starts : (p : ℕ) (d : Depths) → written p ≡ some d → InChunk S span p
+    pub entry-zeros : written (span .entry) ≡ some zeros
+    pub edges-agree : (p : ℕ) (d : Depths) → written p ≡ some d
+        → (e : Item) → e ∈ edges S p d → written (e .place) ≡ some (e .depths)
+    pub able : (p : ℕ) (d : Depths) → written p ≡ some d → Able S p d
+    pub height-at : (p : ℕ) (d : Depths) → written p ≡ some d → d .operands ≤ span .declared
+    pub height-after : (p : ℕ) (d : Depths) → written p ≡ some d → after S p d .operands ≤ span .declared
+
+  -- control can arrive at a place with these depths: it is the entry with zeros, or an edge leads there from an
+  -- instruction of the chunk on a path, which has what it needs
+  pub data Path : Item → Type 0 where
+    enters : Path (record { place = span .entry; depths = zeros })
+    follows : {i e : Item} → Path i → InChunk S span (i .place) → Able S (i .place) (i .depths)
+        → e ∈ edges S (i .place) (i .depths) → Path e
+
+  -- an operand depth at an instruction on a path, or just after it
+  pub data DepthOnPath : ℕ → Type 0 where
+    at : {i : Item} → Path i → InChunk S span (i .place) → DepthOnPath (i .depths .operands)
+    just-after : {i : Item} → Path i → InChunk S span (i .place) → Able S (i .place) (i .depths)
+        → DepthOnPath (after S (i .place) (i .depths) .operands)
+
+  -- a start on some path
+  pub record OnPath (p : ℕ) : Type 0 where
+    pub depths : Depths
+    pub path : Path (record { place = p; depths = depths })
+    pub start : InChunk S span p
+
+  -- what an accepted chunk is answered with: the starts on some path, each once, with the edges out of them; the height
+  pub record Measures (height reached taken : ℕ) : Type 0 where
+    pub places : List ℕ
+    pub no-repeats : NoRepeats places
+    pub on-paths : (p : ℕ) → p ∈ places ↔ OnPath p
+    pub counted : reached ≡ length places
+    pub edges-out : taken ≡ 1 + sumOf (degree S) places
+    pub attained : DepthOnPath height
+    pub largest : (h : ℕ) → DepthOnPath h → h ≤ height

@@ -4,9 +4,9 @@ use mathlib.Core.Path.{_≡_, refl, ap}
 use Prim.Native.Nat.{ℕ, zero, suc, _<_}
 use native.Mathlib.Nat.{le-of-suc-le-suc, not-suc-le-zero}
 use lib.ListN.{length, getD}
-use Rattle.judging.specs.Spans.{chunkAt}
+use Rattle.demand.specs.Span.{chunkAt}
 use Rattle.grain.specs.declared.Chunk.{Chunk}
-use Rattle.grain.specs.Chunks.{spanOf, spansFrom}
+use Rattle.grain.specs.Chunks.{chunkSpan, spansFrom}
 
 -- what lies past the end of a list of chunks
 abbrev pub no-chunk : Chunk
@@ -17,7 +17,7 @@ unfolding spansFrom
 spans-count [] = refl
 spans-count (c ∷ chunks) = ap suc (spans-count chunks)
 
-pub span-there : (chunks : List Chunk) (k : ℕ) → k < length chunks → chunkAt (spansFrom chunks) k ≡ spanOf (getD chunks k no-chunk)
+pub span-there : (chunks : List Chunk) (k : ℕ) → k < length chunks → chunkAt (spansFrom chunks) k ≡ chunkSpan (getD chunks k no-chunk)
 unfolding spansFrom
 span-there [] k l = absurd (not-suc-le-zero l)
 span-there (c ∷ chunks) zero l = refl

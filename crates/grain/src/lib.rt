@@ -1,9 +1,10 @@
 // The C boundary: the one function that is offered to other languages, over a lent list of chunk records.
 // Any input gets an answer: its verdict, and every word of the four lent buffers, are those of the whole call.
-// Left to the caller's word: a pointer has as many elements as its length says, is aligned, and is null only where that length is
-// 0; no buffer overlaps another or anything that is read; and nobody else writes what is lent or read while the call runs.
+// Left to the caller's word: a pointer has as many elements as its length says, is aligned, and is null only where that
+// length is 0; no buffer overlaps another or anything that is read; and nobody else writes what is lent or read while
+// the call runs.
 ghost use lib.ListN.{length};
-ghost use Rattle.before.specs.Input.{input};
+ghost use Rattle.before.specs.Parameters.{input};
 ghost use Rattle.verify.specs.Call.{Calls};
 ghost use Rattle.grain.specs.Chunks.{spansFrom};
 use answer::verdict::Verdict;
@@ -42,9 +43,19 @@ pub extern "C" fn grain_verify(
         (input rights functions constants names tokens «op_assignments» chains steps switches cases ranges code
         (length (spansFrom (now (chunks .entry)))))
         (spansFrom (now (chunks .entry)))
-        (record { marks = now (marks .entry); heights = now (heights .entry); records = now (records .entry); work = now (work .entry) })
+        (record {
+          marks = now (marks .entry);
+          heights = now (heights .entry);
+          records = now (records .entry);
+          work = now (work .entry);
+        })
         r
-        (record { marks = now (marks .exit); heights = now (heights .exit); records = now (records .exit); work = now (work .exit) }) ⌝ }
+        (record {
+          marks = now (marks .exit);
+          heights = now (heights .exit);
+          records = now (records .exit);
+          work = now (work .exit);
+        }) ⌝ }
 {
     let mut state = stages::begin(
         rights,

@@ -1,5 +1,6 @@
 // Whether an instruction can be asked about: it has its width, and the entries of the tables that it names are there.
-// Decided at run time, so that the exports ask nothing of their caller.
+// The answer is true exactly where `rules` can be asked about the instruction, for any bytes and any tables.
+// What is made of the answer is left to `probe`, whose exports by it ask nothing of their caller.
 ghost use mathlib.Core.Path.{_≡_};
 ghost use Prim.Native.Nat.{_+_, _<_};
 ghost use lib.Dec.{leb};
@@ -78,7 +79,8 @@ fn has_chain(code: &[u8], at: usize, chains: &[u32], steps: &[u32]) -> bool
 
 fn has_switch(code: &[u8], at: usize, switches: &[u32], cases: &[u32], ranges: &[u32]) -> bool
     requires { ⌜ 0 < widthAt (now code) at ⌝ }
-    ensures { λ r. ⌜ r ≡ hasSwitch (now (code .entry)) at (now (switches .entry)) (now (cases .entry)) (now (ranges .entry)) ⌝ }
+    ensures { λ r. ⌜ r ≡ hasSwitch (now (code .entry)) at (now (switches .entry)) (now (cases .entry))
+        (now (ranges .entry)) ⌝ }
 {
     if code[at] != tag::SWITCH {
         return true;

@@ -1,7 +1,7 @@
 -- Judging one chunk after the other: what is left from here is what there was from the start.
 use mathlib.Core.List.{List, [], _∷_}
 use mathlib.Core.Path.{_≡_, refl, sym, ap, _∙_}
-use Prim.Native.Nat.{ℕ, zero, suc, _+_, _*_, _^_, _≤_, _<_, min}
+use Prim.Native.Nat.{ℕ, zero, suc, _+_, _*_, _≤_, _<_, min}
 use native.Mathlib.Nat.{min-le-left, min-le-right, suc-min-suc, zero-min, min-zero, le-of-suc-le-suc, not-suc-le-zero}
 use native.Mathlib.Omega.{arith}
 use lib.ListN.{length, getD, set, drop, replicate, length-set, drop-of-length-le}
@@ -10,12 +10,11 @@ use Rattle.answer.specs.declared.Answer.{Answer}
 use Rattle.demand.specs.Chunk.{passes, fails, judgeChunk}
 use Rattle.demand.specs.Chunk as chunk
 use Rattle.rules.specs.Script.{Script}
-use Rattle.demand.specs.Span.{Span}
+use Rattle.demand.specs.Span.{Span, chunkAt}
 use Rattle.judging.specs.declared.Judgement.the-variants.{Passed, Refused}
-use Rattle.judging.specs.Spans.{chunkAt}
 use Rattle.judging.specs.Spans.{spansOf}
-use Rattle.judging.specs.Judging.{judgeAll, Judges, andThen}
-use Rattle.judging.specs.Bounds.{mostReached, mostTaken}
+use Rattle.judging.specs.Judging.{JudgedAll, judgeAll}
+use Rattle.judging.specs.Judges.{Judges, mostTaken, mostReached}
 
 -- ---- spans
 
@@ -53,6 +52,11 @@ span-within entries ends declared k h =
 -- what is left from a chunk on
 pub chunk-next : (spans : List Span) (k : ℕ) → k < length spans → drop k spans ≡ chunkAt spans k ∷ drop (suc k) spans
 chunk-next spans k h = drop-cons spans k _ h
+
+-- one judgement, and after it, where all of its chunks pass, another
+unfoldable andThen : JudgedAll → ((reached taken : ℕ) → (heights : List ℕ) → JudgedAll) → JudgedAll
+andThen judged more =
+    elim (judged .answer) [ Passed reached taken ↦ more reached taken (judged .heights) | Refused chunk a ↦ judged ]
 
 module _ (S : Script) (records work : ℕ) where
   -- ---- one chunk

@@ -7,13 +7,12 @@ use Prim.Native.Nat.{ℕ, _+_, _-_, _*_, _≤_, _<_}
 use native.Mathlib.Decide.{decLt}
 use native.Mathlib.Omega.{arith}
 use borrow.Author.Tests.{lt-ltb, le-ltb}
-use lib.Dec.{ltb}
 use lib.ListN.{length, getD, set, take, drop, replicate, length-replicate, length-append, length-drop, List·getD-append}
 use lib.Seq.{drop-length, ext-getD, getD-append-add, getD-drop}
 use Rattle.opening.specs.declared.Room.{Room}
 use Rattle.opening.specs.declared.Opened.{Opened}
 use Rattle.opening.specs.declared.Opened.the-variants.{Refused, Ready as Opened-Ready}
-use Rattle.opening.specs.Opens.{Readies, Refuses, Opens}
+use Rattle.opening.specs.Opens.{Readies, Refuses, OpenedAs}
 use Rattle.code.specs.Layout.{tagAt}
 use Rattle.code.specs.Width.{widthOf}
 use Rattle.listing.proofs.Before.{before-start, before-stop, before-few}
@@ -22,27 +21,30 @@ use Rattle.opening.specs.Records.{keys, laid}
 use Rattle.opening.proofs.Kept.{few-targets}
 use Rattle.opening.proofs.Targets.{keys-rise, few-keys}
 use Rattle.order.specs.Order.{Rising}
-use Rattle.pools.specs.Sizes.{maxCode, maxTargets}
+use Rattle.pools.specs.Sizes.{maxCode}
+use Rattle.pools.specs.Good.{maxTargets}
 use Rattle.answer.specs.declared.Answer.{Answer}
 use Rattle.answer.specs.declared.Outcome.{Outcome}
 use Rattle.answer.specs.declared.Outcome.the-variants.{Passed, Refused as Failed}
 use Rattle.answer.specs.Answer.{told, unless}
 use Rattle.demand.proofs.Demand.{Height, above, within, within-or-above}
 use Rattle.answer.proofs.Apart.{zero≢one}
-use Rattle.demand.specs.Chunk.{BeforeWalk, judgeChunk, passes, fails, heightTest, redeclared}
-use Rattle.demand.specs.Span.{T, E, chunkStarts}
+use Rattle.demand.specs.Chunk.{judgeChunk, passes, fails, heightTest}
+use Rattle.demand.specs.BeforeWalk.{redeclared, BeforeWalk}
+use Rattle.demand.specs.Span.{T, E, chunkStarts, Span}
 use Rattle.rules.specs.Edges.{falls, degree}
 use Rattle.machine.specs.Lists.{_∈_, here, there, sumOf}
 use Rattle.demand.proofs.Inside.{inside, entry-starts}
 use Rattle.rules.specs.Script.{Script}
-use Rattle.demand.specs.Span.{Span}
 use Rattle.machine.specs.Walk.{stops}
 use Rattle.words.specs.Stack.{Clear}
 use Rattle.walk.specs.declared.Counts.{Counts}
 use Rattle.walk.specs.declared.Hand.{Hand}
 use Rattle.walk.specs.declared.Turn.{Turn}
 use Rattle.walk.specs.declared.Turn.the-variants.{Next, Done, Refused as Stopped}
-use Rattle.walk.specs.Units.{spanOf, firstHand, zeroed, Abandoned, Closed, AtItem, turnOf, GoesOn, Ends, Stops, Took}
+use Rattle.walk.specs.Ends.{Closed, Abandoned, zeroed}
+use Rattle.walk.specs.Turn.{ItemTaken, Stops, Ends, GoesOn, AtItem, turnOf, roomSpan}
+use Rattle.walk.specs.Hand.{firstHand}
 use Rattle.walk.proofs.Chunks.{begins, goes, last-fit, Few, few, ended, refuses-so}
 use Rattle.walk.proofs.Moment.{fit, small}
 use Rattle.walk.proofs.Store.{laid-fit, behind-zeros}
@@ -113,23 +115,23 @@ few-edges S R span B = go (decLt (span .entry) (span .end))
 -- ---- a chunk opened
 
 -- what opening came to
-module _ (S : Script) (span : Span) (words rooms : ℕ) (opened : Opened) (records work : List ℕ) (o : Opens S span words rooms opened records work) where
+module _ (S : Script) (span : Span) (words rooms : ℕ) (opened : Opened) (records work : List ℕ) (o : OpenedAs S span words rooms opened records work) where
   pub opens-refused : {a : Answer} → opened ≡ Refused a → Refuses S span words rooms a records work
-  opens-refused e = subst (λ (x : Opened). Opens S span words rooms x records work) e o
+  opens-refused e = subst (λ (x : Opened). OpenedAs S span words rooms x records work) e o
 
   pub opens-ready : {room : Room} → opened ≡ Opened-Ready room → Readies S span words rooms room records work
-  opens-ready e = subst (λ (x : Opened). Opens S span words rooms x records work) e o
+  opens-ready e = subst (λ (x : Opened). OpenedAs S span words rooms x records work) e o
 
 -- what taking an item came to
-module _ (S : Script) (room : Room) (h : Hand) (records work : List ℕ) (t : Turn) (records′ work′ : List ℕ) (k : Took S room h records work t records′ work′) where
+module _ (S : Script) (room : Room) (h : Hand) (records work : List ℕ) (t : Turn) (records′ work′ : List ℕ) (k : ItemTaken S room h records work t records′ work′) where
   pub took-next : {next : Hand} → t ≡ Next next → GoesOn S room (turnOf S room h records work) next records′ work′
-  took-next e = subst (λ (x : Turn). Took S room h records work x records′ work′) e k
+  took-next e = subst (λ (x : Turn). ItemTaken S room h records work x records′ work′) e k
 
   pub took-done : {last : Counts} → t ≡ Done last → Ends S room (turnOf S room h records work) last records′ work′
-  took-done e = subst (λ (x : Turn). Took S room h records work x records′ work′) e k
+  took-done e = subst (λ (x : Turn). ItemTaken S room h records work x records′ work′) e k
 
   pub took-refused : {a : Answer} → t ≡ Stopped a → Stops S room (turnOf S room h records work) a records work records′ work′
-  took-refused e = subst (λ (x : Turn). Took S room h records work x records′ work′) e k
+  took-refused e = subst (λ (x : Turn). ItemTaken S room h records work x records′ work′) e k
 
 -- the walk has come to an item, in so many words of records and of work
 pub record Walking (S : Script) (marks : List ℕ) (words rooms : ℕ) (room : Room) (h : Hand) (records work : List ℕ) : Type 0 where
@@ -146,10 +148,10 @@ module _ (S : Script) (R : Ready S) (marks : List ℕ) (M : Marked marks (S .cod
     pub work-long : length work ≡ rooms
     work-long = ap length (O .work-cleared) ∙ length-replicate rooms 0
 
-    same-span : spanOf room ≡ record { entry = entry; end = end; declared = 0 }
+    same-span : roomSpan room ≡ record { entry = entry; end = end; declared = 0 }
     same-span = rw (O .same-entry, O .same-end) refl
 
-    before : BeforeWalk S (spanOf room) words rooms
+    before : BeforeWalk S (roomSpan room) words rooms
     before = rw same-span (record {
       decoded = R .listable .decoded;
       chain-there = λ p s has. R .chain-there p s .chain has .entry;
@@ -163,23 +165,23 @@ module _ (S : Script) (R : Ready S) (marks : List ℕ) (M : Marked marks (S .cod
       work-room = O .work-room;
     })
 
-    based : room .base ≡ 1 + T S (spanOf room)
+    based : room .base ≡ 1 + T S (roomSpan room)
     based = rw same-span (O .all-named)
 
-    keyed : room .keys ≡ length (keys S (spanOf room))
+    keyed : room .keys ≡ length (keys S (roomSpan room))
     keyed = rw same-span (O .all-keys)
 
-    laid-so : records ≡ laid S (spanOf room) words
+    laid-so : records ≡ laid S (roomSpan room) words
     laid-so = rw same-span (O .records-laid)
 
-    pub opened-front : take (room .keys) records ≡ keys S (spanOf room)
-    opened-front = rw (keyed, laid-so) (laid-fit S (spanOf room) words (before .records-room) .front)
+    pub opened-front : take (room .keys) records ≡ keys S (roomSpan room)
+    opened-front = rw (keyed, laid-so) (laid-fit S (roomSpan room) words (before .records-room) .front)
 
     pub opened-rises : Rising (take (room .keys) records)
-    opened-rises = rw opened-front (keys-rise S (spanOf room))
+    opened-rises = rw opened-front (keys-rise S (roomSpan room))
 
     pub opened-keys : room .keys ≤ length records
-    opened-keys = omega (arith, keyed, few-keys S (spanOf room), before .records-room, records-long)
+    opened-keys = omega (arith, keyed, few-keys S (roomSpan room), before .records-room, records-long)
 
     first-walking : {h : Hand} → h ≡ firstHand (take (room .keys) records) (room .entry) → Walking S marks words rooms room h records work
     first-walking {h} e = record {
@@ -200,7 +202,7 @@ module _ (S : Script) (R : Ready S) (marks : List ℕ) (M : Marked marks (S .cod
     pub first-walking-here : {h : Hand} → h ≡ firstHand (take (room .keys) records) (room .entry) → Walking S marks (length records) (length work) room h records work
     first-walking-here e = record { at = first-walking e .at; records-long = refl; work-long = refl }
 
-    pub judged-here : (declared : ℕ) → judgeChunk S (redeclared (spanOf room) declared) words rooms
+    pub judged-here : (declared : ℕ) → judgeChunk S (redeclared (roomSpan room) declared) words rooms
         ≡ judgeChunk S (record { entry = entry; end = end; declared = declared }) words rooms
     judged-here declared = rw (O .same-entry, O .same-end) refl
 
@@ -208,7 +210,7 @@ module _ (S : Script) (R : Ready S) (marks : List ℕ) (M : Marked marks (S .cod
 
 module _ {S : Script} {marks : List ℕ} {words rooms : ℕ} where
   module _ {room : Room} {h : Hand} {records work : List ℕ} (W : Walking S marks words rooms room h records work) where
-    pub lent : BeforeWalk S (spanOf room) words rooms
+    pub lent : BeforeWalk S (roomSpan room) words rooms
     lent = rw (W .records-long, W .work-long) at (W .at .before)
 
     pub walking-on : {next : Hand} {records′ work′ : List ℕ} → GoesOn S room (turnOf S room h records work) next records′ work′
@@ -249,12 +251,12 @@ module _ {S : Script} {marks : List ℕ} {words rooms : ℕ} where
               ∙ ap (λ (n : ℕ). replicate n 0) (W .work-long),
         )
 
-    pub stopped-judged : {a : Answer} → turnOf S room h records work ≡ stops a → (declared : ℕ) → judgeChunk S (redeclared (spanOf room) declared) words rooms ≡ fails a
+    pub stopped-judged : {a : Answer} → turnOf S room h records work ≡ stops a → (declared : ℕ) → judgeChunk S (redeclared (roomSpan room) declared) words rooms ≡ fails a
     stopped-judged e = refuses-so S room words rooms lent h records work (W .records-long) (W .at .going) e
 
     -- none is left
     module _ {last : Counts} {records′ work′ : List ℕ} (g : Ends S room (turnOf S room h records work) last records′ work′) where
-      pub ended-judged : (declared : ℕ) → judgeChunk S (redeclared (spanOf room) declared) words rooms
+      pub ended-judged : (declared : ℕ) → judgeChunk S (redeclared (roomSpan room) declared) words rooms
           ≡ unless fails (heightTest (last .height) declared) (passes (last .height) (last .reached) (last .taken))
       ended-judged = ended S room words rooms lent h records work (W .records-long) (W .at .going) last records′ work′ g
 

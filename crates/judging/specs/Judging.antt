@@ -1,22 +1,22 @@
--- The chunks judged, upward. Document 01, "Order of the tests": "chunks upward. The first refusal met ends the whole call"; "What
--- comes back": "heights hold a measured height for each chunk before the one refused (all, if accepted), the others untouched";
--- "reached and taken, summed over the chunks".
+-- The chunks judged, upward. Document 01, "Order of the tests": "chunks upward. The first refusal met ends the whole
+-- call"; "What comes back": "heights hold a measured height for each chunk before the one refused (all, if accepted),
+-- the others untouched"; "reached and taken, summed over the chunks".
 use mathlib.Core.List.{List, [], _∷_}
-use mathlib.Core.Path.{_≡_}
 use Prim.Native.Nat.{ℕ, _+_}
-use lib.ListN.{set, replicate}
+use lib.ListN.{set}
 use Rattle.demand.specs.Chunk.{passes, fails, judgeChunk}
-use Rattle.rules.specs.Script.{Script}
 use Rattle.demand.specs.Span.{Span}
-use Rattle.judging.specs.declared.Judgement.{Judgement}
-use Rattle.judging.specs.declared.Judgement.the-variants.{Passed, Refused}
+use Rattle.rules.specs.Script.{Script}
+pub use Rattle.judging.specs.declared.Judgement.{Judgement}
+pub use Rattle.judging.specs.declared.Judgement.the-variants.{Passed, Refused}
 
 -- chunks judged one after the other: the answer, and what heights hold with it
 pub record JudgedAll : Type 0 where
   pub answer : Judgement
   pub heights : List ℕ
 
--- where so many words of records and of work are lent: from the chunk of a number on, with what the chunks before it come to
+-- where so many words of records and of work are lent: from the chunk of a number on, with what the chunks before it
+-- come to
 module _ (S : Script) (records work : ℕ) where
   unfoldable pub judgeAll : List Span → (number reached taken : ℕ) → (heights : List ℕ) → JudgedAll
   judgeAll [] number reached taken heights = record { answer = Passed reached taken; heights = heights }
@@ -25,14 +25,3 @@ module _ (S : Script) (records work : ℕ) where
         | passes height r t ↦ judgeAll spans (number + 1) (reached + r) (taken + t) (set heights number height)
         | fails a ↦ record { answer = Refused number a; heights = heights }
       ]
-
-  -- what a call comes to: this answer, these heights, and nothing left in records and work
-  pub record Judges (spans : List Span) (first : ℕ) (heights : List ℕ) (r : Judgement) (heights′ records′ work′ : List ℕ) : Type 0 where
-    pub answer : r ≡ judgeAll spans first 0 0 heights .answer
-    pub measured : heights′ ≡ judgeAll spans first 0 0 heights .heights
-    pub records-zero : records′ ≡ replicate records 0
-    pub work-zero : work′ ≡ replicate work 0
-
--- one judgement, and after it, where all of its chunks pass, another
-unfoldable pub andThen : JudgedAll → ((reached taken : ℕ) → (heights : List ℕ) → JudgedAll) → JudgedAll
-andThen judged more = elim (judged .answer) [ Passed reached taken ↦ more reached taken (judged .heights) | Refused chunk a ↦ judged ]

@@ -1,4 +1,4 @@
 -- The definitions that contracts and laws cite.
 pub mod Spans
 pub mod Judging
-pub mod Bounds
+pub mod Judges

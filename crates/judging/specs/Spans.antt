@@ -1,8 +1,7 @@
--- Lists of spans: what a call lends as flat lists, and the chunk of a number. Document 01, "Flat pools and sizes": "Chunk spans come as
--- a lent list of records: entry, end, declared height".
+-- Spans from three flat lists, for callers in Rattle. Document 01, "Flat pools and sizes": "Chunk spans come as a lent
+-- list of records: entry, end, declared height".
 use mathlib.Core.List.{List, [], _∷_}
 use Prim.Native.Nat.{ℕ}
-use lib.ListN.{getD}
 use Rattle.demand.specs.Span.{Span}
 
 -- flat spans: as many as the shortest of the three lists has
@@ -10,8 +9,5 @@ unfoldable pub spansOf : (entries ends declared : List ℕ) → List Span
 spansOf [] ends declared = []
 spansOf (entry ∷ entries) [] declared = []
 spansOf (entry ∷ entries) (end ∷ ends) [] = []
-spansOf (entry ∷ entries) (end ∷ ends) (height ∷ declared) = record { entry = entry; end = end; declared = height } ∷ spansOf entries ends declared
-
--- the span of the chunk of a number; what it is where there is no such chunk is no matter
-abbrev pub chunkAt : List Span → ℕ → Span
-chunkAt spans i = getD spans i (record { entry = 0; end = 0; declared = 0 })
+spansOf (entry ∷ entries) (end ∷ ends) (height ∷ declared) =
+    record { entry = entry; end = end; declared = height } ∷ spansOf entries ends declared

@@ -1,16 +1,18 @@
 // The chunks, over flat spans: each opened, walked item by item, and closed.
+// The answer and the heights are those of document 01's chunks upward, and records and work are zero again on return.
+// Left to `verify`: everything before the chunks, the marks and the verdict.
 ghost use mathlib.Core.List.{[], _∷_};
 ghost use mathlib.Core.Path.{_≡_};
 ghost use Prim.Native.Nat.{_+_, _≤_, _<_, min};
 ghost use lib.ListN.{length, replicate};
 ghost use Rattle.opening.specs.Ready.{Ready, Marked};
 ghost use Rattle.pools.specs.Sizes.{maxChunks};
-ghost use Rattle.rules.specs.Script.{script};
+ghost use Rattle.rules.specs.FromLists.{script};
 ghost use Rattle.judging.specs.Spans.{spansOf};
-ghost use Rattle.judging.specs.Judging.{Judges};
-use opening::Opened;
+ghost use Rattle.judging.specs.Judges.{Judges};
 use answer::Answer;
 use answer::Outcome;
+use opening::Opened;
 use walk::Turn;
 use walk::chunk;
 use walk::item;
@@ -50,7 +52,8 @@ pub fn judge_spans(
     records: &mut [u32],
     work: &mut [u32],
 ) -> Judgement
-    requires { ⌜ Ready (script rights (now names) (now chains) (now steps) (now switches) (now cases) (now ranges) (now code)) ⌝ }
+    requires { ⌜ Ready
+        (script rights (now names) (now chains) (now steps) (now switches) (now cases) (now ranges) (now code)) ⌝ }
     requires { ⌜ Marked (now marks) (now code) ⌝ }
     requires { ⌜ now records ≡ replicate (length (now records)) 0 ⌝ }
     requires { ⌜ now work ≡ replicate (length (now work)) 0 ⌝ }
@@ -58,8 +61,8 @@ pub fn judge_spans(
     requires { ⌜ first + length (spansOf (now entries) (now ends) (now declared)) ≤ length (now heights) ⌝ }
     requires { ⌜ first ≤ maxChunks ⌝ }
     ensures { λ r. ⌜ Judges
-        (script rights (now (names .entry)) (now (chains .entry)) (now (steps .entry)) (now (switches .entry)) (now (cases .entry))
-        (now (ranges .entry)) (now (code .entry)))
+        (script rights (now (names .entry)) (now (chains .entry)) (now (steps .entry)) (now (switches .entry))
+        (now (cases .entry)) (now (ranges .entry)) (now (code .entry)))
         (length (now (records .entry))) (length (now (work .entry)))
         (spansOf (now (entries .entry)) (now (ends .entry)) (now (declared .entry))) first (now (heights .entry))
         r (now (heights .exit)) (now (records .exit)) (now (work .exit)) ⌝ }
@@ -167,15 +170,16 @@ pub fn verify_span(
     records: &mut [u32],
     work: &mut [u32],
 ) -> Judgement
-    requires { ⌜ Ready (script rights (now names) (now chains) (now steps) (now switches) (now cases) (now ranges) (now code)) ⌝ }
+    requires { ⌜ Ready
+        (script rights (now names) (now chains) (now steps) (now switches) (now cases) (now ranges) (now code)) ⌝ }
     requires { ⌜ Marked (now marks) (now code) ⌝ }
     requires { ⌜ now records ≡ replicate (length (now records)) 0 ⌝ }
     requires { ⌜ now work ≡ replicate (length (now work)) 0 ⌝ }
     requires { ⌜ number < length (now heights) ⌝ }
     requires { ⌜ number ≤ maxChunks ⌝ }
     ensures { λ r. ⌜ Judges
-        (script rights (now (names .entry)) (now (chains .entry)) (now (steps .entry)) (now (switches .entry)) (now (cases .entry))
-        (now (ranges .entry)) (now (code .entry)))
+        (script rights (now (names .entry)) (now (chains .entry)) (now (steps .entry)) (now (switches .entry))
+        (now (cases .entry)) (now (ranges .entry)) (now (code .entry)))
         (length (now (records .entry))) (length (now (work .entry)))
         (record { entry = entry; end = end; declared = declared } ∷ []) number (now (heights .entry))
         r (now (heights .exit)) (now (records .exit)) (now (work .exit)) ⌝ }

@@ -6,7 +6,8 @@ use native.Mathlib.Omega.{arith}
 use lib.ListN.{length}
 use Rattle.answer.specs.Depths.{Item}
 use Rattle.machine.specs.Machine.{Machine}
-use Rattle.machine.specs.Walk.{Store, Book, dropped, entered, Turn, goes-on, stops, Run, accepted, refused, unfinished, run}
+use Rattle.machine.specs.Walk.{Store, Book, dropped, entered, Turn, goes-on, stops, Run, accepted, refused}
+use Rattle.machine.specs.Walk.{unfinished, run}
 use Rattle.machine.proofs.Waiting.{waiting}
 use Rattle.machine.proofs.Turn.{Again, Enters, Refuses, Taken, again, enters, refuses, turn-is, taken-so}
 

@@ -5,11 +5,17 @@ use Prim.Native.Nat.{ℕ, zero, suc, _+_}
 use native.Mathlib.Nat.{suc-add, zero-add}
 use Rattle.answer.specs.Depths.{Item}
 use Rattle.machine.specs.Machine.{Machine}
-use Rattle.machine.specs.Walk.{Store, Book, Turn, goes-on, stops, accepted, refused, unfinished, run, resume}
+use Rattle.machine.specs.Walk.{Store, Book, Turn, goes-on, stops, accepted, refused, unfinished, Run, run}
 use Rattle.machine.proofs.Turn.{Taken, again, enters, refuses, taken-so}
 use Rattle.machine.proofs.Run.{run-goes-on, run-stops}
 
 module _ {R S : Type 0} (M : Machine R) (K : Store S) where
+  -- A run, and then as many units more.
+  unfoldable pub resume : ℕ → Run R S → Run R S
+  resume n (accepted b) = accepted b
+  resume n (refused r units) = refused r units
+  resume n (unfinished w b) = run n w b
+
   run-nil : (n : ℕ) (b : Book S) → run M K n [] b ≡ accepted b
   unfolding run
   run-nil zero b = refl

@@ -10,12 +10,12 @@ use lib.ListN.{length}
 use Rattle.machine.specs.Lists.{sumOf}
 use Rattle.answer.specs.Depths.{Item}
 use Rattle.machine.specs.Machine.{Machine, origin}
-use Rattle.machine.specs.Walk.{Store, Book, blank, dropped, entered, Turn, Run, accepted, refused, unfinished, seen, run, walk}
-use Rattle.machine.specs.Walk.{Log, lookup, log}
+use Rattle.machine.specs.Walk.{Store, Book, blank, dropped, entered, Turn, Run, accepted, refused, unfinished}
+use Rattle.machine.specs.Walk.{seen, run, walk, Log, lookup, log}
 use Rattle.machine.proofs.Laws.{Laws}
 use Rattle.machine.proofs.Tables.{lookup-hit, lookup-miss}
-use Rattle.machine.proofs.Turn.{seen-named, seen-other, Again, New, Enters, Refuses, is-off, clashes, is-denied, jumps-badly}
-use Rattle.machine.proofs.Turn.{Taken, again, enters, refuses, taken-so}
+use Rattle.machine.proofs.Turn.{seen-named, seen-other, Again, New, Enters, Refuses, is-off, clashes, is-denied}
+use Rattle.machine.proofs.Turn.{jumps-badly, Taken, again, enters, refuses, taken-so}
 use Rattle.machine.proofs.Run.{run-goes-on, run-stops}
 use Rattle.machine.proofs.Ends.{Bounded, Roomy, unfinished-bounded, unfinished-roomy}
 

@@ -18,7 +18,8 @@ use Rattle.machine.specs.Walk.{lookup}
 use Rattle.answer.proofs.Apart.{zero≢one}
 use Rattle.machine.proofs.Lists.{∉-nil, ∈-cases, ∈-map, map-∈}
 use Rattle.machine.proofs.Laws.{InChunk, Passes}
-use Rattle.machine.proofs.Paths.{edges, Reached, begins, follows, OnPath, stand-at, stand-after, Good, Writing, Measured}
+use Rattle.machine.proofs.Paths.{edges, Reached, begins, follows, OnPath, stand-at, stand-after, Good, Writing}
+use Rattle.machine.proofs.Paths.{Measured}
 
 abbrev pub places : List Item → List ℕ
 places t = map (λ it. it .place) t

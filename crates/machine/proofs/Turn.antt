@@ -11,7 +11,7 @@ use Rattle.machine.specs.Lists.{_∈_, here, there}
 use Rattle.answer.specs.Depths.{agree, Item}
 use Rattle.answer.specs.declared.Depths.{Depths}
 use Rattle.machine.specs.Machine.{Ruling, denies, gives, Machine}
-use Rattle.machine.specs.Walk.{Store, Book, dropped, entered, Turn, goes-on, stops, firstBad, seen, turn}
+use Rattle.machine.specs.Walk.{Store, Book, dropped, entered, Turn, goes-on, stops, firstBadJump, seen, turn}
 use Rattle.answer.proofs.Apart.{zero≢one}
 use Rattle.machine.proofs.Lists.{∈-cases}
 use Rattle.machine.proofs.Agree.{agree-refl, agree-true, agree-false}
@@ -21,36 +21,36 @@ use Rattle.machine.proofs.Waiting.{waiting}
 -- ---- the first bad jump
 
 module _ {R : Type 0} (test : ℕ → Option R) where
-  pub bad-here : (j : Item) (js : List Item) {r : R} → test (j .place) ≡ some r → firstBad test (j ∷ js) ≡ some r
-  unfolding firstBad
-  bad-here j js e = rw (e, firstBad)
+  pub bad-here : (j : Item) (js : List Item) {r : R} → test (j .place) ≡ some r → firstBadJump test (j ∷ js) ≡ some r
+  unfolding firstBadJump
+  bad-here j js e = rw (e, firstBadJump)
 
-  pub bad-later : (j : Item) (js : List Item) → test (j .place) ≡ none → firstBad test (j ∷ js) ≡ firstBad test js
-  unfolding firstBad
-  bad-later j js e = rw (e, firstBad)
+  pub bad-later : (j : Item) (js : List Item) → test (j .place) ≡ none → firstBadJump test (j ∷ js) ≡ firstBadJump test js
+  unfolding firstBadJump
+  bad-later j js e = rw (e, firstBadJump)
 
   -- Where there is none, each jump passes the test;
-  pub bad-none : {j : Item} (js : List Item) → firstBad test js ≡ none → j ∈ js → test (j .place) ≡ none
+  pub bad-none : {j : Item} (js : List Item) → firstBadJump test js ≡ none → j ∈ js → test (j .place) ≡ none
   bad-none {j} (k ∷ js) e m = go (test (k .place)) refl (∈-cases m) (bad-none js)
     where
       go : (o : Option R)
           → test (k .place) ≡ o
           → (j ≡ k) ⊎ (j ∈ js)
-          → (firstBad test js ≡ none → j ∈ js → test (j .place) ≡ none)
+          → (firstBadJump test js ≡ none → j ∈ js → test (j .place) ≡ none)
           → test (j .place) ≡ none
       go none q (inl h) ih = rw h q
       go none q (inr h) ih = ih (sym (bad-later k js q) ∙ e) h
       go (some r) q h ih = absurd (zero≢one (cc (bad-here k js q)))
 
   -- and otherwise it is one of the jumps.
-  pub bad-some : {r : R} (js : List Item) → firstBad test js ≡ some r → (j : Item) × (j ∈ js) × (test (j .place) ≡ some r)
-  unfolding firstBad
+  pub bad-some : {r : R} (js : List Item) → firstBadJump test js ≡ some r → (j : Item) × (j ∈ js) × (test (j .place) ≡ some r)
+  unfolding firstBadJump
   bad-some [] e = absurd (zero≢one (cc))
   bad-some {r} (k ∷ js) e = go (test (k .place)) refl (bad-some js)
     where
       go : (o : Option R)
           → test (k .place) ≡ o
-          → (firstBad test js ≡ some r → (j : Item) × (j ∈ js) × (test (j .place) ≡ some r))
+          → (firstBadJump test js ≡ some r → (j : Item) × (j ∈ js) × (test (j .place) ≡ some r))
           → (j : Item) × (j ∈ (k ∷ js)) × (test (j .place) ≡ some r)
       go none q ih = let b = ih (sym (bad-later k js q) ∙ e) in (b .0, there (b .1), b .2)
       go (some s) q ih = (k, here refl, q ∙ sym (bad-here k js q) ∙ e)
@@ -82,7 +82,7 @@ module _ {R S : Type 0} (M : Machine R) (K : Store S) where
   pub record Enters (it : Item) (b : Book S) : Type 0 where
     pub new : New it b
     pub passes : Passes M it
-    pub judged : firstBad (M .judge (it .place)) (passes .jumps) ≡ none
+    pub judged : firstBadJump (M .judge (it .place)) (passes .jumps) ≡ none
 
   pub data Refuses (it : Item) (b : Book S) : R → Type 0 where
     is-off : M .end ≤ it .place → Refuses it b (M .off)
@@ -92,7 +92,7 @@ module _ {R S : Type 0} (M : Machine R) (K : Store S) where
         → ¬ (d ≡ it .depths)
         → Refuses it b (M .clash (it .place) d (it .depths))
     is-denied : {r : R} → New it b → M .rule (it .place) (it .depths) ≡ denies r → Refuses it b r
-    jumps-badly : {r : R} → New it b → (g : Passes M it) → firstBad (M .judge (it .place)) (g .jumps) ≡ some r → Refuses it b r
+    jumps-badly : {r : R} → New it b → (g : Passes M it) → firstBadJump (M .judge (it .place)) (g .jumps) ≡ some r → Refuses it b r
 
   pub data Taken (it : Item) (w : List Item) (b : Book S) : Turn R S → Type 0 where
     again : Again it b → Taken it w b (goes-on w (dropped b))
@@ -117,7 +117,7 @@ module _ {R S : Type 0} (M : Machine R) (K : Store S) where
     pub taken-so : Way
     taken-so = at-place (ltb (it .place) (M .end)) refl
       where
-        at-jumps : New it b → (g : Passes M it) (o : Option R) → firstBad (M .judge (it .place)) (g .jumps) ≡ o → Way
+        at-jumps : New it b → (g : Passes M it) (o : Option R) → firstBadJump (M .judge (it .place)) (g .jumps) ≡ o → Way
         at-jumps n g none e = (_, enters (record { new = n; passes = g; judged = e }))
         at-jumps n g (some r) e = (_, refuses (jumps-badly n g e))
 
@@ -125,7 +125,7 @@ module _ {R S : Type 0} (M : Machine R) (K : Store S) where
         at-rule n (denies r) e = (_, refuses (is-denied n e))
         at-rule n (gives post fall jumps) e =
             let g : Passes M it = record { post = post; fall = fall; jumps = jumps; ruled = e } in
-            at-jumps n g (firstBad (M .judge (it .place)) jumps) refl
+            at-jumps n g (firstBadJump (M .judge (it .place)) jumps) refl
 
         at-merge : it .place < M .end
             → (d : Depths)

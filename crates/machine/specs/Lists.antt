@@ -1,5 +1,5 @@
--- Lists as sets, and sums over them: in these words the theorems say document 01's "the starts on some path from the entry; 1 + the edges
--- out of those", and E, the "outgoing edges" of a chunk. Membership is the library's, under a short sign.
+-- Lists as sets, and sums over them, for document 01's "the starts on some path from the entry; 1 + the edges out of
+-- those", and for E, the "outgoing edges" of a chunk. Membership is the library's, under a short sign.
 use mathlib.Core.List.{List, [], _∷_, List·Memᴰ}
 pub use mathlib.Core.List.{List·Memᴰ·head as here, List·Memᴰ·tail as there}
 use Prim.Native.Nat.{ℕ, _+_}

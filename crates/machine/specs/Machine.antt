@@ -1,16 +1,15 @@
--- The machine that the walk is about: a chunk, freed of bytes and tags. `R` is the type of refusals, of which the walk knows nothing.
--- Document 01, "Order of the tests": what its paragraph on a chunk says of one instruction is a field here, and what it says of the order
--- in which items are taken and tested is `turn` of Walk.
+-- The machine that the walk is about: a chunk, freed of bytes and tags. `R` is the type of refusals, of which the walk
+-- knows nothing. Document 01, "Order of the tests": what its paragraph on a chunk says of one instruction is a field
+-- here, and what it says of the order in which items are taken and tested is `turn` of Walk.
 use mathlib.Core.Bool.{Bool}
 use mathlib.Core.List.{List, _∷_}
 use mathlib.Core.Option.{Option, none, some}
 use Prim.Native.Nat.{ℕ}
-use Rattle.answer.specs.Depths.{zeros, Item}
-use Rattle.answer.specs.declared.Depths.{Depths}
+use Rattle.answer.specs.Depths.{Depths, zeros, Item}
 
--- What the rule of one instruction says at some depths. Either it denies, with a refusal: rights; 12; 15 and 16; 13 of a plain instruction
--- whose successor is not before the end. Or it gives the operands just after the instruction, the depths that fall through to the next one,
--- if control does, and the jumps in the order of their tests, each with the depths at its target.
+-- What the rule of one instruction says at some depths. Either it denies, with a refusal: rights; 12; 15 and 16; 13 of
+-- a plain instruction whose successor is not before the end. Or it gives the operands just after the instruction, the
+-- depths that fall through, if control does, and the jumps in the order of their tests, with the depths at each target.
 pub data Ruling (R : Type 0) : Type 0 where
   denies : R → Ruling R
   gives : (post : ℕ) (fall : Option Depths) (jumps : List Item) → Ruling R

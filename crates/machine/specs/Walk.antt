@@ -1,14 +1,13 @@
--- The walk over a machine, item by item, with what it counts.
--- Document 01: "The walk starts with (entry, 0, 0, 0) and takes the work item pushed last: place at or past the end, 13; place that is the
--- entry or a named target and was seen before, dropped if all three depths agree, else 11; rights ..; 12; 15 for ITER_DROP, 16 for
--- POP_HANDLER; then edges, each target tested for 9, then 10, and the fall-through pushed last."
+-- The walk over a machine, item by item, with what it counts. Document 01: "The walk starts with (entry, 0, 0, 0) and
+-- takes the work item pushed last: place at or past the end, 13; place that is the entry or a named target and was seen
+-- before, dropped if all three depths agree, else 11; rights [...]; 12; 15 for ITER_DROP, 16 for POP_HANDLER; then
+-- edges, each target tested for 9, then 10, and the fall-through pushed last."
 use mathlib.Core.Bool.{true, false}
 use mathlib.Core.List.{List, [], _∷_}
 use mathlib.Core.Option.{Option, none, some}
 use Prim.Native.Nat.{ℕ, zero, suc, _+_, max}
 use lib.Dec.{ltb, eqb}
-use Rattle.answer.specs.Depths.{agree, Item}
-use Rattle.answer.specs.declared.Depths.{Depths}
+use Rattle.answer.specs.Depths.{Depths, agree, Item}
 use Rattle.machine.specs.Machine.{denies, gives, Machine, origin, fallTo}
 
 -- Where the depths of the places entered are kept. `S` is what the store holds at a moment.
@@ -16,15 +15,16 @@ pub record Store (S : Type 0) : Type 0 where
   pub recall : ℕ → S → Option Depths
   pub note : Item → S → S
 
--- What one item hands to the next: the store, the instructions entered, the items taken, and the largest number of operands at an
--- instruction entered or just after it.
+-- What one item hands to the next: the store, the instructions entered, the items taken, and the largest number of
+-- operands at an instruction entered or just after it.
 pub record Book (S : Type 0) : Type 0 where
   pub store : S
   pub reached : ℕ
   pub taken : ℕ
   pub height : ℕ
 
--- The book before the first item, after an item that is dropped, and after one that enters an instruction, which leaves `post` operands.
+-- The book before the first item, after an item that is dropped, and after one that enters an instruction, which leaves
+-- `post` operands.
 abbrev pub blank : {S : Type 0} → S → Book S
 blank s = record { store = s; reached = 0; taken = 0; height = 0 }
 
@@ -44,7 +44,8 @@ pub data Turn (R S : Type 0) : Type 0 where
   goes-on : List Item → Book S → Turn R S
   stops : R → Turn R S
 
--- What a run comes to: accepted; refused, with the number of items taken, the refused one among them; or unfinished, with the work list.
+-- What a run comes to: accepted; refused, with the number of items taken, the refused one among them; or unfinished,
+-- with the work list.
 pub data Run (R S : Type 0) : Type 0 where
   accepted : Book S → Run R S
   refused : R → ℕ → Run R S
@@ -56,9 +57,9 @@ push [] w = w
 push (j ∷ js) w = push js (j ∷ w)
 
 -- The refusal of the first jump whose target a test refuses.
-unfoldable pub firstBad : {R : Type 0} → (ℕ → Option R) → List Item → Option R
-firstBad test [] = none
-firstBad test (j ∷ js) = elim (test (j .place)) [ some r ↦ some r | none ↦ firstBad test js ]
+unfoldable pub firstBadJump : {R : Type 0} → (ℕ → Option R) → List Item → Option R
+firstBadJump test [] = none
+firstBadJump test (j ∷ js) = elim (test (j .place)) [ some r ↦ some r | none ↦ firstBadJump test js ]
 
 module _ {R S : Type 0} (M : Machine R) (K : Store S) where
   -- The depths with which a place was seen: asked of the named places only.
@@ -77,7 +78,7 @@ module _ {R S : Type 0} (M : Machine R) (K : Store S) where
           ]
           | none ↦ elim (M .rule (it .place) (it .depths)) [
             | denies r ↦ stops r
-            | gives post fall jumps ↦ elim (firstBad (M .judge (it .place)) jumps) [
+            | gives post fall jumps ↦ elim (firstBadJump (M .judge (it .place)) jumps) [
               | some r ↦ stops r
               | none ↦ goes-on (fallTo (M .next (it .place)) fall (push jumps w)) (entered K it post b)
             ]
@@ -92,18 +93,12 @@ module _ {R S : Type 0} (M : Machine R) (K : Store S) where
   run (suc n) [] b = accepted b
   run (suc n) (it ∷ w) b = elim (turn it w b) [ goes-on w′ b′ ↦ run n w′ b′ | stops r ↦ refused r (b .taken + 1) ]
 
-  -- A run, and then as many units more.
-  unfoldable pub resume : ℕ → Run R S → Run R S
-  resume n (accepted b) = accepted b
-  resume n (refused r units) = refused r units
-  resume n (unfinished w b) = run n w b
-
   -- From the entry, with the store as it is.
   abbrev pub walk : ℕ → S → Run R S
   walk n s = run n (origin M ∷ []) (blank s)
 
--- The plainest store: the log of all items that entered, the last one first. The theorems are about the walk over the log, from an empty
--- one; any store that recalls what the log recalls gives the same answers.
+-- The plainest store: the log of all items that entered, the last one first. The theorems are about the walk over the
+-- log, from an empty one; any store that recalls what the log recalls gives the same answers.
 abbrev pub Log : Type 0
 Log = List Item
 

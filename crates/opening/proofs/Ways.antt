@@ -11,14 +11,12 @@ use Rattle.order.proofs.Laws.{no-longer}
 use Rattle.answer.specs.Answer.{unless}
 use Rattle.demand.specs.Chunk.{spanTest, roomTest, openTest}
 use Rattle.answer.specs.declared.Answer.{Answer}
-use Rattle.demand.specs.Span.{T, E, chunkStarts}
+use Rattle.demand.specs.Span.{T, E, chunkStarts, Span, InCode}
 use Rattle.rules.specs.Edges.{degree}
 use Rattle.rules.specs.Script.{Script}
-use Rattle.demand.specs.Span.{Span}
 use Rattle.opening.specs.declared.Listed.{Listed}
 use Rattle.opening.specs.Listing.{fronted, opening, keepAll, AllListed}
 use Rattle.opening.specs.Opens.{KeysLaid, Refuses, Readies}
-use Rattle.demand.specs.Span.{InCode}
 use Rattle.opening.specs.Records.{named, keys, laid}
 use Rattle.opening.proofs.Fronts.{drop-zeros, length-fronted, cleared}
 use Rattle.opening.proofs.Targets.{length-named, targets-below-edges, all-kept-named}

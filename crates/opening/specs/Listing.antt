@@ -1,5 +1,6 @@
--- The instructions of a chunk listed: T and E, and their targets kept in records while there is room. Document 01, "Flat pools
--- and sizes": "T is the targets named by instructions that start in the chunk, repeats counted, E their outgoing edges".
+-- The instructions of a chunk listed: T and E, and their targets kept in records while there is room. Document 01,
+-- "Flat pools and sizes": "T is the targets named by instructions that start in the chunk, repeats counted, E their
+-- outgoing edges".
 use mathlib.Core.Bool.{Bool, cond}
 use mathlib.Core.List.{List, [], _∷_, _++_}
 use mathlib.Core.Path.{_≡_}
@@ -9,21 +10,26 @@ use lib.ListN.{length, replicate}
 use lib.Seq.{sets}
 use Rattle.code.specs.Layout.{tagAt}
 use Rattle.code.specs.Width.{widthOf}
-use Rattle.listing.specs.Listing.{startsBefore}
-use Rattle.rules.specs.Edges.{falls, targetsOf}
+use Rattle.listing.specs.Starts.{startsBefore}
 use Rattle.machine.specs.Lists.{sumOf}
+use Rattle.rules.specs.Edges.{falls, targetsOf}
 use Rattle.opening.specs.declared.Listed.{Listed}
 
 -- do so many words more have room behind those that are kept?
 abbrev pub roomFor : (kept more words : ℕ) → Bool
 roomFor kept more words = leb (kept + more) words
 
--- one instruction, of so many targets: both counts grow, and its targets are stored behind the others where all of them fit
-pub record OneListed (targets : List ℕ) (fall : ℕ) (before : Listed) (records : List ℕ) (r : Listed) (records′ : List ℕ) : Type 0 where
-  pub targets-counted : r .targets ≡ before .targets + length targets
-  pub edges-counted : r .edges ≡ before .edges + (length targets + fall)
-  pub stored : r .stored ≡ cond (roomFor (before .stored) (length targets) (length records)) (before .stored + length targets) (before .stored)
-  pub words : records′ ≡ cond (roomFor (before .stored) (length targets) (length records)) (sets records (before .stored) targets) records
+-- one instruction, of so many targets: both counts grow, and its targets are stored behind the others where all of them
+-- fit
+module _ (targets : List ℕ) (fall : ℕ) (before : Listed) (records : List ℕ) where
+  abbrev allFit : Bool
+  allFit = roomFor (before .stored) (length targets) (length records)
+
+  pub record OneListed (r : Listed) (records′ : List ℕ) : Type 0 where
+    pub targets-counted : r .targets ≡ before .targets + length targets
+    pub edges-counted : r .edges ≡ before .edges + (length targets + fall)
+    pub stored : r .stored ≡ cond allFit (before .stored + length targets) (before .stored)
+    pub words : records′ ≡ cond allFit (sets records (before .stored) targets) records
 
 -- so many words, these in front and zeros behind
 unfoldable pub fronted : (words : ℕ) → List ℕ → List ℕ
@@ -47,7 +53,8 @@ module _ (code switches cases ranges : List ℕ) where
   -- what is kept after the instructions at these places, in so many words
   unfoldable pub keepAll : (words : ℕ) → (kept : List ℕ) → List ℕ → List ℕ
   keepAll words kept [] = kept
-  keepAll words kept (p ∷ ps) = keepAll words (cond (roomFor (length kept) (length (targetsAt p)) words) (kept ++ targetsAt p) kept) ps
+  keepAll words kept (p ∷ ps) =
+      keepAll words (cond (roomFor (length kept) (length (targetsAt p)) words) (kept ++ targetsAt p) kept) ps
 
   -- all instructions from an entry to an end, and far fewer targets and edges than 64 bits can count
   pub record AllListed (entry end words : ℕ) (r : Listed) (records′ : List ℕ) : Type 0 where

@@ -1,21 +1,20 @@
--- What opening a chunk comes to: a refusal, with both buffers cleared, or room for its walk, with its keys in records. Document 01,
--- "Order of the tests": "A chunk: 7; 8 if the entry is neither a start nor the code's length; room for records, work".
+-- What opening a chunk comes to: a refusal, with both buffers cleared, or room for its walk, with its keys in records.
+-- Document 01, "Order of the tests": "A chunk: 7; 8 if the entry is neither a start nor the code's length; room for
+-- records, work".
 use mathlib.Core.List.{List}
 use mathlib.Core.Option.{some}
 use mathlib.Core.Path.{_≡_}
 use Prim.Native.Nat.{ℕ, _+_, _*_, _≤_}
 use lib.ListN.{length, take, replicate}
-use Rattle.order.specs.Order.{inOrder}
-use Rattle.answer.specs.declared.Answer.{Answer}
+use Rattle.answer.specs.Answer.{Answer}
 use Rattle.demand.specs.Chunk.{openTest}
-use Rattle.demand.specs.Span.{T, E}
+use Rattle.demand.specs.Span.{T, E, Span, InCode}
+use Rattle.order.specs.Order.{inOrder}
 use Rattle.rules.specs.Script.{Script}
-use Rattle.demand.specs.Span.{Span}
 use Rattle.opening.specs.declared.Opened.{Opened}
 use Rattle.opening.specs.declared.Opened.the-variants.{Ready, Refused}
 use Rattle.opening.specs.declared.Room.{Room}
 use Rattle.opening.specs.Listing.{fronted}
-use Rattle.demand.specs.Span.{InCode}
 use Rattle.opening.specs.Records.{keys, laid}
 
 -- the first words put in order, r of them left, and nothing else in either buffer
@@ -42,6 +41,6 @@ module _ (S : Script) (span : Span) (lent-records lent-work : ℕ) where
     pub records-laid : records′ ≡ laid S span lent-records
     pub work-cleared : work′ ≡ replicate lent-work 0
 
-  abbrev pub Opens : Opened → (records′ work′ : List ℕ) → Type 0
-  Opens (Ready room) records′ work′ = Readies room records′ work′
-  Opens (Refused answer) records′ work′ = Refuses answer records′ work′
+  abbrev pub OpenedAs : Opened → (records′ work′ : List ℕ) → Type 0
+  OpenedAs (Ready room) records′ work′ = Readies room records′ work′
+  OpenedAs (Refused answer) records′ work′ = Refuses answer records′ work′

@@ -5,13 +5,14 @@ use mathlib.Core.Path.{_≡_}
 use Prim.Native.Nat.{ℕ, _≤_}
 use lib.ListN.{length}
 use Rattle.code.specs.Width.{widthOf}
-use Rattle.listing.specs.Listing.{Start, starts, stopBy}
-use Rattle.marks.specs.Marks.{Holds}
+use Rattle.demand.specs.Span.{Span}
+use Rattle.listing.specs.Listing.{stopBy}
+use Rattle.listing.specs.Starts.{Start, starts}
+use Rattle.marks.specs.Places.{Holds}
 use Rattle.pools.specs.Good.{ChainsWithin, SwitchesWithin}
 use Rattle.pools.specs.Pools.{casesIn}
 use Rattle.pools.specs.Sizes.{maxCode, maxEntries}
 use Rattle.rules.specs.Script.{Script}
-use Rattle.demand.specs.Span.{Span}
 use Rattle.rules.specs.There.{NameThere, ChainThere, SwitchThere}
 
 -- What listing a chunk builds on: every byte of the code belongs to an instruction, each switch that one names is there

@@ -1,5 +1,5 @@
 // A chunk opened: its own tests before its walk, its instructions listed, and its targets put in order in records.
-// The answer is document 01's verdict on these tests, and every word of records and of work is told; a refusal leaves zeros.
+// The answer is document 01's on these tests, and every word of records and of work is told; a refusal leaves zeros.
 // The walk itself is left to `walk`, and what must hold of a script before its chunks to `before`.
 ghost use mathlib.Core.List.{List};
 ghost use mathlib.Core.Path.{_≡_};
@@ -11,8 +11,8 @@ ghost use Rattle.code.specs.Width.{widthAt};
 ghost use Rattle.rules.specs.Shapes.{Shape};
 ghost use Rattle.rules.specs.There.{SwitchThere};
 ghost use Rattle.opening.specs.Listing.{targetsAt, fallAt, OneListed, EntryStored, AllListed};
-ghost use Rattle.opening.specs.Opens.{KeysLaid, Opens};
-ghost use Rattle.rules.specs.Script.{script};
+ghost use Rattle.opening.specs.Opens.{KeysLaid, OpenedAs};
+ghost use Rattle.rules.specs.FromLists.{script};
 ghost use Rattle.opening.specs.Ready.{Listable, Marked, spanOf};
 ghost use Rattle.demand.specs.Span.{InCode};
 ghost use Rattle.answer.specs.Answer.{told};
@@ -25,8 +25,8 @@ const RECORDS: u64 = 3;
 
 const WORK: u64 = 4;
 
-// A chunk that is ready to be walked: where it starts and ends, the index in records from which depths are kept, and how many
-// keys stand before that.
+// A chunk that is ready to be walked: where it starts and ends, the index in records from which depths are kept, and
+// how many keys stand before that.
 pub struct Room {
     pub entry: u32,
     pub end: u32,
@@ -40,8 +40,8 @@ pub enum Opened {
     Refused(Answer),
 }
 
-// What the instructions listed so far come to: their targets, repeats counted; their edges; and how many words of records
-// are in use, the entry first.
+// What the instructions listed so far come to: their targets, repeats counted; their edges; and how many words of
+// records are in use, the entry first.
 pub struct Listed {
     pub targets: u64,
     pub edges: u64,
@@ -74,7 +74,7 @@ fn store_targets(
     }
 }
 
-// One instruction: it adds to both counts, and its targets are stored while records has room. The word is that of its tag.
+// One instruction: it adds to both counts, and its targets are stored while there is room. The word is its tag's.
 pub fn list_instruction(
     word: u64,
     code: &[u8],
@@ -91,7 +91,8 @@ pub fn list_instruction(
     requires { ⌜ before .stored ≤ length (now records) ⌝ }
     requires { ⌜ before .targets + length (targetsAt (now code) (now switches) (now cases) (now ranges) at) < 2 ^ 63 ⌝ }
     requires { ⌜ before .edges + length (targetsAt (now code) (now switches) (now cases) (now ranges) at) < 2 ^ 63 ⌝ }
-    ensures { λ r. ⌜ OneListed (targetsAt (now (code .entry)) (now (switches .entry)) (now (cases .entry)) (now (ranges .entry)) at)
+    ensures { λ r. ⌜ OneListed
+        (targetsAt (now (code .entry)) (now (switches .entry)) (now (cases .entry)) (now (ranges .entry)) at)
         (fallAt (now (code .entry)) (now (switches .entry)) (now (cases .entry)) (now (ranges .entry)) at)
         before (now (records .entry)) r (now (records .exit)) ⌝ }
 {
@@ -179,8 +180,8 @@ fn check_span(code: &[u8], entry: u32, end: u32, marks: &[u64]) -> Outcome
     }
 }
 
-// Kind 3, of so many targets and edges: are the lent words of records enough, and then those of work? What is needed can pass
-// 32 bits.
+// Kind 3, of so many targets and edges: are the lent words of records enough, and then those of work? What is needed
+// can pass 32 bits.
 fn check_room(targets: u64, edges: u64, records: usize, work: usize) -> Outcome
     requires { ⌜ targets < 2 ^ 40 ⌝ }
     requires { ⌜ edges < 2 ^ 40 ⌝ }
@@ -209,7 +210,8 @@ fn lay_keys(count: usize, records: &mut [u32], work: &mut [u32]) -> usize
     requires { ⌜ count ≤ length (now work) ⌝ }
     requires { ⌜ drop count (now records) ≡ replicate (length (now records) - count) 0 ⌝ }
     requires { ⌜ now work ≡ replicate (length (now work)) 0 ⌝ }
-    ensures { λ r. ⌜ KeysLaid count (now (records .entry)) (now (work .entry)) r (now (records .exit)) (now (work .exit)) ⌝ }
+    ensures { λ r. ⌜ KeysLaid count (now (records .entry)) (now (work .entry)) r (now (records .exit))
+        (now (work .exit)) ⌝ }
 {
     order::put_in_order(records, count, work)
 }
@@ -230,8 +232,9 @@ pub fn open_span(
     requires { ⌜ Marked (now marks) (now code) ⌝ }
     requires { ⌜ now records ≡ replicate (length (now records)) 0 ⌝ }
     requires { ⌜ now work ≡ replicate (length (now work)) 0 ⌝ }
-    ensures { λ r. ⌜ ((rights : ℕ) (names chains steps : List ℕ) (declared : ℕ) → Opens
-        (script rights names chains steps (now (switches .entry)) (now (cases .entry)) (now (ranges .entry)) (now (code .entry)))
+    ensures { λ r. ⌜ ((rights : ℕ) (names chains steps : List ℕ) (declared : ℕ) → OpenedAs
+        (script rights names chains steps (now (switches .entry)) (now (cases .entry)) (now (ranges .entry))
+        (now (code .entry)))
         (spanOf entry end declared) (length (now (records .entry))) (length (now (work .entry)))
         r (now (records .exit)) (now (work .exit))) ⌝ }
 {

@@ -1,6 +1,7 @@
 // The limits: the most that there may be of everything that is lent.
 ghost use mathlib.Core.Path.{_≡_};
-ghost use Rattle.pools.specs.Sizes.{numbered, firstExceeded};
+ghost use Rattle.pools.specs.Sizes.{firstExceeded};
+ghost use Rattle.pools.specs.Answers.{limitsTold};
 
 // How many there are of each, tables by whole entries.
 pub struct Sizes {
@@ -40,7 +41,7 @@ pub struct Limit(pub u64, pub bool);
 
 // Is there more of anything than its limit allows?
 pub fn check_limits(sizes: Sizes) -> Limits
-    ensures { λ r. ⌜ numbered r ≡ firstExceeded sizes ⌝ }
+    ensures { λ r. ⌜ limitsTold r ≡ firstExceeded sizes ⌝ }
 {
     let limits = [
         Limit(1, sizes.code > MAX_CODE),

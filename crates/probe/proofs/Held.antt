@@ -11,7 +11,7 @@ use Rattle.answer.specs.declared.Depths.{Depths}
 use Rattle.rules.specs.Needs.{iteratorsNeeded, handlersNeeded}
 use Rattle.rules.specs.There.{Held}
 use Rattle.probe.specs.declared.depths.DepthsTold.{DepthsTold}
-use Rattle.probe.specs.Depths.{holds, fits, none, Told}
+use Rattle.probe.specs.Depths.{holds, fits, noDepths, ToldIf}
 use Rattle.guards.proofs.Ready.{both}
 
 -- a truth value as a number
@@ -87,11 +87,11 @@ module _ (pops pushes operands : ℕ) where
 -- ---- what is told
 
 module _ {b : Bool} {d : Depths} where
-  pub untold : b ≡ false → {r : DepthsTold} → r ≡ none → Told b d r
+  pub untold : b ≡ false → {r : DepthsTold} → r ≡ noDepths → ToldIf b d r
   untold e q = rw (e, q) (record { number = refl; operands = refl; iterators = refl; handlers = refl })
 
   pub told : b ≡ true → {r : Depths} → r ≡ d
-      → Told b d (record { number = 0; operands = r .operands; iterators = r .iterators; handlers = r .handlers })
+      → ToldIf b d (record { number = 0; operands = r .operands; iterators = r .iterators; handlers = r .handlers })
   told e q = record {
     number = rw e;
     operands = rw e (ap (λ (d : Depths). d .operands) q);

@@ -1,8 +1,8 @@
-// What a tag asks of the depths, and what becomes of them, in numbers. Number 0 where the depths are such as the rules ask
-// for; number 1 and zeros where not.
+// What a tag asks of the depths, and what becomes of them, in numbers. Number 0 where the depths are such as the rules
+// ask for; number 1 and zeros where not.
 ghost use mathlib.Core.Path.{_≡_};
 ghost use Rattle.rules.specs.Shapes.{Flow};
-ghost use Rattle.probe.specs.Depths.{holds, fits, none, AfterSame, JumpedSame, NeededSame};
+ghost use Rattle.probe.specs.Depths.{holds, fits, noDepths, AfterSame, JumpedSame, NeededSame};
 use answer::Depths;
 use rules::Effect;
 use rules::edges;
@@ -61,7 +61,7 @@ fn has_operands(pops: u32, pushes: u32, operands: u32) -> bool
 
 // What is told where the depths are not such as the rules ask for.
 fn nothing() -> DepthsTold
-    ensures { λ r. ⌜ r ≡ none ⌝ }
+    ensures { λ r. ⌜ r ≡ noDepths ⌝ }
 {
     DepthsTold {
         number: 1,
@@ -120,7 +120,8 @@ pub extern "C" fn probe_jumped(
     iterators_after: u32,
     handlers_after: u32,
 ) -> DepthsTold
-    ensures { λ r. ⌜ JumpedSame tag operands iterators handlers «operands_after» «iterators_after» «handlers_after» r ⌝ }
+    ensures { λ r. ⌜ JumpedSame
+        tag operands iterators handlers «operands_after» «iterators_after» «handlers_after» r ⌝ }
 {
     if !has_depths(tag, iterators, handlers) {
         return nothing();

@@ -1,5 +1,5 @@
-// What one instruction needs, does and leads to, in numbers. Number 0 where it has its width and the entries that it names
-// are there; number 1 and zeros where not.
+// What one instruction needs, does and leads to, in numbers. Number 0 where it has its width and the entries that it
+// names are there; number 1 and zeros where not.
 ghost use Rattle.probe.specs.Instruction.{EffectSame, requiredTold, targetsTold, edgesTold, targetTold};
 ghost use Rattle.probe.specs.Same.{SameTold};
 use crate::Told;
@@ -59,8 +59,8 @@ pub extern "C" fn probe_required(
     cases: &[u32],
     ranges: &[u32],
 ) -> Told
-    ensures { λ r. ⌜ SameTold r (requiredTold (now (code .entry)) at (now (names .entry)) (now (chains .entry)) (now (steps .entry))
-        (now (switches .entry)) (now (cases .entry)) (now (ranges .entry))) ⌝ }
+    ensures { λ r. ⌜ SameTold r (requiredTold (now (code .entry)) at (now (names .entry)) (now (chains .entry))
+        (now (steps .entry)) (now (switches .entry)) (now (cases .entry)) (now (ranges .entry))) ⌝ }
 {
     if !guards::is_there(code, at, names, chains, steps, switches, cases, ranges) {
         return Told {
@@ -88,8 +88,8 @@ pub extern "C" fn probe_targets(
     cases: &[u32],
     ranges: &[u32],
 ) -> Told
-    ensures { λ r. ⌜ SameTold r (targetsTold (now (code .entry)) at (now (names .entry)) (now (chains .entry)) (now (steps .entry))
-        (now (switches .entry)) (now (cases .entry)) (now (ranges .entry))) ⌝ }
+    ensures { λ r. ⌜ SameTold r (targetsTold (now (code .entry)) at (now (names .entry)) (now (chains .entry))
+        (now (steps .entry)) (now (switches .entry)) (now (cases .entry)) (now (ranges .entry))) ⌝ }
 {
     if !guards::is_there(code, at, names, chains, steps, switches, cases, ranges) {
         return Told {
@@ -116,8 +116,8 @@ pub extern "C" fn probe_edges(
     cases: &[u32],
     ranges: &[u32],
 ) -> Told
-    ensures { λ r. ⌜ SameTold r (edgesTold (now (code .entry)) at (now (names .entry)) (now (chains .entry)) (now (steps .entry))
-        (now (switches .entry)) (now (cases .entry)) (now (ranges .entry))) ⌝ }
+    ensures { λ r. ⌜ SameTold r (edgesTold (now (code .entry)) at (now (names .entry)) (now (chains .entry))
+        (now (steps .entry)) (now (switches .entry)) (now (cases .entry)) (now (ranges .entry))) ⌝ }
 {
     if !guards::is_there(code, at, names, chains, steps, switches, cases, ranges) {
         return Told {
@@ -146,8 +146,8 @@ pub extern "C" fn probe_target(
     ranges: &[u32],
     k: usize,
 ) -> Told
-    ensures { λ r. ⌜ SameTold r (targetTold (now (code .entry)) at (now (names .entry)) (now (chains .entry)) (now (steps .entry))
-        (now (switches .entry)) (now (cases .entry)) (now (ranges .entry)) k) ⌝ }
+    ensures { λ r. ⌜ SameTold r (targetTold (now (code .entry)) at (now (names .entry)) (now (chains .entry))
+        (now (steps .entry)) (now (switches .entry)) (now (cases .entry)) (now (ranges .entry)) k) ⌝ }
 {
     if !guards::is_there(code, at, names, chains, steps, switches, cases, ranges) {
         return Told {

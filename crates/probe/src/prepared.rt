@@ -1,6 +1,6 @@
 // Everything before the chunks, as its verdict in numbers. An input that passes is told as kind 0 with nothing counted.
-ghost use Rattle.before.specs.Input.{input};
-ghost use Rattle.probe.specs.Before.{Told};
+ghost use Rattle.before.specs.Parameters.{input};
+ghost use Rattle.probe.specs.Before.{SameBefore};
 use answer::Outcome;
 use answer::verdict;
 use answer::verdict::Verdict;
@@ -23,7 +23,7 @@ pub extern "C" fn probe_before(
     marks: &mut [u64],
     heights: usize,
 ) -> Verdict
-    ensures { λ r. ⌜ Told
+    ensures { λ r. ⌜ SameBefore
         (input rights functions constants names tokens «op_assignments» chains steps switches cases ranges code chunks)
         heights (now (marks .entry)) r (now (marks .exit)) ⌝ }
 {

@@ -1,6 +1,6 @@
 // The whole call over flat spans, behind the C calling convention.
 ghost use lib.ListN.{length};
-ghost use Rattle.before.specs.Input.{input};
+ghost use Rattle.before.specs.Parameters.{input};
 ghost use Rattle.verify.specs.Call.{Calls};
 ghost use Rattle.judging.specs.Spans.{spansOf};
 use answer::verdict::Verdict;
@@ -31,9 +31,19 @@ pub extern "C" fn probe_verify(
         (input rights functions constants names tokens «op_assignments» chains steps switches cases ranges code
         (length (spansOf (now (entries .entry)) (now (ends .entry)) (now (declared .entry)))))
         (spansOf (now (entries .entry)) (now (ends .entry)) (now (declared .entry)))
-        (record { marks = now (marks .entry); heights = now (heights .entry); records = now (records .entry); work = now (work .entry) })
+        (record {
+          marks = now (marks .entry);
+          heights = now (heights .entry);
+          records = now (records .entry);
+          work = now (work .entry);
+        })
         r
-        (record { marks = now (marks .exit); heights = now (heights .exit); records = now (records .exit); work = now (work .exit) }) ⌝ }
+        (record {
+          marks = now (marks .exit);
+          heights = now (heights .exit);
+          records = now (records .exit);
+          work = now (work .exit);
+        }) ⌝ }
 {
     verify::verify(
         rights,

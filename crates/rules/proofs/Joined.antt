@@ -10,11 +10,11 @@ use lib.Dec.{eqb}
 use lib.ListN.{length, getD}
 use Rattle.code.proofs.Among.{or-true}
 use Rattle.code.specs.Layout.{among, tagAt, indexAt}
-use Rattle.code.specs.Tags.{CHAIN}
+use Rattle.code.specs.Tags.{byte, bytes, CHAIN}
 use Rattle.code.specs.Width.{widthAt}
 use Rattle.pools.specs.Pools.{chainAt, stepAt, entries}
 use Rattle.rules.specs.Asks.{qualifiable, asking, Asks}
-use Rattle.rules.specs.Bits.{THIS, INDEXING, PROPERTY, METHOD, MODULE}
+use Rattle.rules.specs.Bits.{Right, bit}
 use Rattle.rules.specs.Rights.{ofName, ofStep, ofSteps, ofChain, required}
 use Rattle.rules.specs.There.{NameThere, ChainWhole, ChainThere}
 use Rattle.rules.proofs.Operands.{index-there, chain-there}
@@ -25,21 +25,21 @@ module _ (names : List ℕ) (i : ℕ) where
   unfolding ofName
   plain-name e = rw (eq-eqb (getD names i 0) 0 e)
 
-  pub qualified-name : (getD names i 0 ≡ 0 → ⊥) → MODULE ≡ ofName names i
+  pub qualified-name : (getD names i 0 ≡ 0 → ⊥) → bit Right.MODULE ≡ ofName names i
   unfolding ofName
   qualified-name n = rw (ne-eqb (getD names i 0) 0 n)
 
 -- the kind of a step
 module _ (steps : List ℕ) (i : ℕ) where
-  pub index-step : getD steps (i * 4) 0 ≡ 0 → INDEXING ≡ ofStep (stepAt steps i)
+  pub index-step : getD steps (i * 4) 0 ≡ 0 → bit Right.INDEXING ≡ ofStep (stepAt steps i)
   unfolding ofStep stepAt
   index-step e = rw (eq-eqb (getD steps (i * 4) 0) 0 e)
 
-  pub property-step : (getD steps (i * 4) 0 ≡ 0 → ⊥) → getD steps (i * 4) 0 ≡ 1 → PROPERTY ≡ ofStep (stepAt steps i)
+  pub property-step : (getD steps (i * 4) 0 ≡ 0 → ⊥) → getD steps (i * 4) 0 ≡ 1 → bit Right.PROPERTY ≡ ofStep (stepAt steps i)
   unfolding ofStep stepAt
   property-step n e = rw (ne-eqb (getD steps (i * 4) 0) 0 n, eq-eqb (getD steps (i * 4) 0) 1 e)
 
-  pub method-step : (getD steps (i * 4) 0 ≡ 0 → ⊥) → (getD steps (i * 4) 0 ≡ 1 → ⊥) → METHOD ≡ ofStep (stepAt steps i)
+  pub method-step : (getD steps (i * 4) 0 ≡ 0 → ⊥) → (getD steps (i * 4) 0 ≡ 1 → ⊥) → bit Right.METHOD ≡ ofStep (stepAt steps i)
   unfolding ofStep stepAt
   method-step n m = rw (ne-eqb (getD steps (i * 4) 0) 0 n, ne-eqb (getD steps (i * 4) 0) 1 m)
 
@@ -73,9 +73,9 @@ module _ (steps : List ℕ) (first count : ℕ) where
 -- a chain's root, joined with its steps
 module _ (chains steps : List ℕ) (i caps : ℕ)
     (e : caps ≡ ofSteps (entries (stepAt steps) (getD chains (i * 7 + 5) 0) (getD chains (i * 7 + 6) 0))) where
-  pub this-root : getD chains (i * 7) 0 ≡ 2 → bitOr THIS caps ≡ ofChain steps (chainAt chains i)
+  pub this-root : getD chains (i * 7) 0 ≡ 2 → bitOr (bit Right.THIS) caps ≡ ofChain steps (chainAt chains i)
   unfolding ofChain chainAt
-  this-root r = ap (bitOr THIS) e ∙ rw (eq-eqb (getD chains (i * 7) 0) 2 r) refl
+  this-root r = ap (bitOr (bit Right.THIS)) e ∙ rw (eq-eqb (getD chains (i * 7) 0) 2 r) refl
 
   pub other-root : (getD chains (i * 7) 0 ≡ 2 → ⊥) → caps ≡ ofChain steps (chainAt chains i)
   unfolding ofChain chainAt
@@ -96,12 +96,12 @@ module _ {code names chains steps : List ℕ} {at word : ℕ} (A : Asked code na
 
   -- a name decides
   module _ (one : word / 16384 ≡ 1) where
-    qualified : among (tagAt code at) qualifiable ≡ true
+    qualified : among (tagAt code at) (bytes qualifiable) ≡ true
     qualified = A .asks .by-name ∙ eq-eqb (word / 16384) 1 one
 
     name-index : at + 3 ≤ length code
     unfolding among
-    name-index = index-there code at (A .wide) (rw qualified (rw or-true (or-true (eqb (tagAt code at) CHAIN))))
+    name-index = index-there code at (A .wide) (rw qualified (rw or-true (or-true (eqb (tagAt code at) (byte CHAIN)))))
 
     pub named-there : indexAt code at < length names
     named-there = A .name-there .name qualified
@@ -113,8 +113,8 @@ module _ {code names chains steps : List ℕ} {at word : ℕ} (A : Asked code na
 
   -- a chain does
   module _ (more : word / 16384 ≡ 0 → ⊥) (not-one : word / 16384 ≡ 1 → ⊥) where
-    is-chain : tagAt code at ≡ CHAIN
-    is-chain = eqb-true (tagAt code at) CHAIN (A .asks .by-chain ∙ le-leb 2 (word / 16384) (omega arith))
+    is-chain : tagAt code at ≡ byte CHAIN
+    is-chain = eqb-true (tagAt code at) (byte CHAIN) (A .asks .by-chain ∙ le-leb 2 (word / 16384) (omega arith))
 
     chain-index : at + 3 ≤ length code
     chain-index = chain-there code at (A .wide) is-chain

@@ -6,12 +6,12 @@ use Prim.Native.Nat.{ℕ, _+_, _/_, _%_}
 use native.Mathlib.Omega.{arith}
 use lib.Dec.{T, eqb, leb, ltb, eqb→eq, ltb→lt}
 use Rattle.code.proofs.ByTag.{at-each, tagsOf, once, row-holds}
-use Rattle.code.specs.ByTag.{Row, among}
+use Rattle.code.specs.Tags.{Row, among, byte, bytes, CHAIN}
 use Rattle.code.specs.Layout.{tagAt, indexAt}
-use Rattle.code.specs.Tags.{CHAIN}
 use Rattle.pools.specs.Pools.{chainAt}
 use Rattle.rules.specs.Asks.{qualifiable, asking, Asks}
-use Rattle.rules.specs.Rights.{Need, fixed, named, chained, needs, need, comesTo, ofName, ofChain, required}
+use Rattle.rules.specs.Rights.{Need, fixed, named, chained, rightsByTag, rightsOfTag, comesTo, ofName, ofChain}
+use Rattle.rules.specs.Rights.{required}
 use Rattle.rules.proofs.Tests.{same, same→eq, all, pass}
 
 -- how a word says a need
@@ -26,14 +26,14 @@ low (fixed bits) = ltb bits 16384
 low (named bits) = ltb bits 16384
 low chained = true
 
-need-low : (tag : ℕ) → T (low (need tag))
-unfolding need
-need-low = at-each low needs (fixed 0) tt tt
+need-low : (tag : ℕ) → T (low (rightsOfTag tag))
+unfolding rightsOfTag
+need-low = at-each low rightsByTag (fixed 0) tt tt
 
 -- no tag is in two rows of the needs, so that each row holds of its tags
-pub need-row : {row : Row Need} → List·Memᴰ row needs → (tag : ℕ) → among tag (row .tags) ≡ true → need tag ≡ row .says
-unfolding need once tagsOf
-need-row = row-holds needs (fixed 0) tt
+pub need-row : {row : Row Need} → List·Memᴰ row rightsByTag → (tag : ℕ) → among tag (row .tags) ≡ true → rightsOfTag tag ≡ row .says
+unfolding rightsOfTag once tagsOf
+need-row = row-holds rightsByTag (fixed 0) tt
 
 -- what the word asks for is what the need comes to
 asks-need : (name chain : ℕ) (n : Need) → T (low n) → asking (inWord n) name chain ≡ comesTo name chain n
@@ -48,12 +48,12 @@ asks-need name chain (named bits) t =
 asks-need name chain chained t = refl
 
 tests : ℕ → ℕ → List Bool
-unfolding need inWord
+unfolding rightsOfTag inWord
 tests tag word =
-    same (among tag qualifiable) (eqb (word / 16384) 1)
-    ∷ same (eqb tag CHAIN) (leb 2 (word / 16384))
-    ∷ same (eqb tag CHAIN) (eqb word 32768)
-    ∷ eqb word (inWord (need tag))
+    same (among tag (bytes qualifiable)) (eqb (word / 16384) 1)
+    ∷ same (eqb tag (byte CHAIN)) (leb 2 (word / 16384))
+    ∷ same (eqb tag (byte CHAIN)) (eqb word 32768)
+    ∷ eqb word (inWord (rightsOfTag tag))
     ∷ []
 
 unfoldable pub rightly : ℕ → ℕ → Bool
@@ -61,13 +61,13 @@ unfolding tests
 rightly tag word = all (tests tag word)
 
 asked-needed : (tag : ℕ) (code names chains steps : List ℕ) (p : ℕ) → tagAt code p ≡ tag
-    → asking (inWord (need tag)) (ofName names (indexAt code p)) (ofChain steps (chainAt chains (indexAt code p)))
+    → asking (inWord (rightsOfTag tag)) (ofName names (indexAt code p)) (ofChain steps (chainAt chains (indexAt code p)))
     ≡ required code names chains steps p
 unfolding required
 asked-needed tag code names chains steps p e =
     let name = ofName names (indexAt code p) in
     let chain = ofChain steps (chainAt chains (indexAt code p)) in
-    rw (← e) (asks-need name chain (need (tagAt code p)) (need-low (tagAt code p)))
+    rw (← e) (asks-need name chain (rightsOfTag (tagAt code p)) (need-low (tagAt code p)))
 
 pub rights-told : (tag word : ℕ) → T (rightly tag word) → Asks tag word
 unfolding rightly
@@ -75,5 +75,5 @@ rights-told tag word t = record {
   by-name = same→eq _ _ (pass 0 (tests tag word) t);
   by-chain = same→eq _ _ (pass 1 (tests tag word) t);
   chain-alone = same→eq _ _ (pass 2 (tests tag word) t);
-  needed = rw (eqb→eq word (inWord (need tag)) (pass 3 (tests tag word) t)) (asked-needed tag);
+  needed = rw (eqb→eq word (inWord (rightsOfTag tag)) (pass 3 (tests tag word) t)) (asked-needed tag);
 }

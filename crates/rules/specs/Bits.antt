@@ -1,56 +1,27 @@
--- The rights bits by name. Document 01, "Tags": "Rights bits from 0 (ours): FUNCTION THIS INDEXING PROPERTY METHOD
+-- The rights and their bits. Document 01, "Tags": "Rights bits from 0 (ours): FUNCTION THIS INDEXING PROPERTY METHOD
 -- FN_PTR CURRYING SHARING ARRAY MAP CUSTOM_SYNTAX EXPORT IMPORT MODULE FLOAT DECIMAL BLOB". The document's `_` is
--- written here as `-`. IMPORT and CUSTOM-SYNTAX are tags too: who speaks of both writes `bit.IMPORT`, by
--- `use Rattle.rules.specs.Bits as bit`.
+-- written here as `-`. IMPORT and CUSTOM-SYNTAX are tags too, so a right is written behind its type: `Right.IMPORT`.
 use Prim.Native.Nat.{ℕ, _^_}
 
-abbrev pub FUNCTION : ℕ
-FUNCTION = 2 ^ 0
+pub data Right : Type 0 where
+  FUNCTION THIS INDEXING PROPERTY METHOD FN-PTR CURRYING SHARING ARRAY MAP CUSTOM-SYNTAX EXPORT IMPORT MODULE : Right
+  FLOAT DECIMAL BLOB : Right
 
-abbrev pub THIS : ℕ
-THIS = 2 ^ 1
-
-abbrev pub INDEXING : ℕ
-INDEXING = 2 ^ 2
-
-abbrev pub PROPERTY : ℕ
-PROPERTY = 2 ^ 3
-
-abbrev pub METHOD : ℕ
-METHOD = 2 ^ 4
-
-abbrev pub FN-PTR : ℕ
-FN-PTR = 2 ^ 5
-
-abbrev pub CURRYING : ℕ
-CURRYING = 2 ^ 6
-
-abbrev pub SHARING : ℕ
-SHARING = 2 ^ 7
-
-abbrev pub ARRAY : ℕ
-ARRAY = 2 ^ 8
-
-abbrev pub MAP : ℕ
-MAP = 2 ^ 9
-
-abbrev pub CUSTOM-SYNTAX : ℕ
-CUSTOM-SYNTAX = 2 ^ 10
-
-abbrev pub EXPORT : ℕ
-EXPORT = 2 ^ 11
-
-abbrev pub IMPORT : ℕ
-IMPORT = 2 ^ 12
-
-abbrev pub MODULE : ℕ
-MODULE = 2 ^ 13
-
-abbrev pub FLOAT : ℕ
-FLOAT = 2 ^ 14
-
-abbrev pub DECIMAL : ℕ
-DECIMAL = 2 ^ 15
-
-abbrev pub BLOB : ℕ
-BLOB = 2 ^ 16
+abbrev pub bit : Right → ℕ
+bit FUNCTION = 2 ^ 0
+bit THIS = 2 ^ 1
+bit INDEXING = 2 ^ 2
+bit PROPERTY = 2 ^ 3
+bit METHOD = 2 ^ 4
+bit FN-PTR = 2 ^ 5
+bit CURRYING = 2 ^ 6
+bit SHARING = 2 ^ 7
+bit ARRAY = 2 ^ 8
+bit MAP = 2 ^ 9
+bit CUSTOM-SYNTAX = 2 ^ 10
+bit EXPORT = 2 ^ 11
+bit IMPORT = 2 ^ 12
+bit MODULE = 2 ^ 13
+bit FLOAT = 2 ^ 14
+bit DECIMAL = 2 ^ 15
+bit BLOB = 2 ^ 16

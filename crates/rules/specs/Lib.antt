@@ -1,4 +1,5 @@
 pub mod Script
+pub mod FromLists
 pub mod Effects
 pub mod Bits
 pub mod Rights

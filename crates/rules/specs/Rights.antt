@@ -6,23 +6,22 @@ use Prim.Native.Nat.{ℕ, _-_}
 use lib.Bits.{bitAnd, bitOr}
 use lib.Dec.{eqb}
 use lib.ListN.{getD}
-use Rattle.code.specs.ByTag.{Row, _for_, among, lookUp}
+use Rattle.code.specs.Tags.{Row, _for_, among, lookUp, IS-SHARED, MAKE-FN-PTR, LOAD-THIS, LOAD-THIS-SHARED}
+use Rattle.code.specs.Tags.{REQUIRE-THIS, ASSIGN-THIS, CURRY, SHARE, SHARE-NAMED, ASSIGN-THIS-OP, MAKE-CLOSURE}
+use Rattle.code.specs.Tags.{LOAD-NAMED, CHAIN, MAKE-ARRAY, MAKE-MAP, CUSTOM-SYNTAX, IMPORT, CALL, CALL-THIS-REF}
+use Rattle.code.specs.Tags.{EXPORT-LOCAL, EXPORT-NAMED, CALL-OP, CALL-LOCAL-REF, CALL-NAMED-REF, callFnPtrs}
 use Rattle.code.specs.Layout.{tagAt, indexAt}
-use Rattle.code.specs.Tags.{IS-SHARED, MAKE-FN-PTR, LOAD-THIS, LOAD-THIS-SHARED, REQUIRE-THIS, ASSIGN-THIS, CURRY}
-use Rattle.code.specs.Tags.{SHARE, SHARE-NAMED, ASSIGN-THIS-OP, MAKE-CLOSURE, LOAD-NAMED, CHAIN, MAKE-ARRAY, MAKE-MAP}
-use Rattle.code.specs.Tags.{CUSTOM-SYNTAX, IMPORT, CALL, CALL-THIS-REF, EXPORT-LOCAL, EXPORT-NAMED, CALL-OP}
-use Rattle.code.specs.Tags.{CALL-LOCAL-REF, CALL-NAMED-REF, callFnPtrs}
 use Rattle.pools.specs.Pools.{Chain, Step, chainAt, stepsOf}
-use Rattle.rules.specs.Bits as bit
+use Rattle.rules.specs.Bits.{Right, bit}
 
 -- ---- of what an instruction names
 
 -- MODULE for a qualified name
 unfoldable pub ofName : List ℕ → ℕ → ℕ
-ofName names name = cond (eqb (getD names name 0) 0) 0 bit.MODULE
+ofName names name = cond (eqb (getD names name 0) 0) 0 (bit Right.MODULE)
 
 unfoldable pub ofStep : Step → ℕ
-ofStep s = cond (eqb (s .kind) 0) bit.INDEXING (cond (eqb (s .kind) 1) bit.PROPERTY bit.METHOD)
+ofStep s = cond (eqb (s .kind) 0) (bit Right.INDEXING) (cond (eqb (s .kind) 1) (bit Right.PROPERTY) (bit Right.METHOD))
 
 unfoldable pub ofSteps : List Step → ℕ
 ofSteps [] = 0
@@ -30,7 +29,7 @@ ofSteps (s ∷ ss) = bitOr (ofStep s) (ofSteps ss)
 
 -- THIS for a chain whose root is `this`, joined with what its steps need
 unfoldable pub ofChain : List ℕ → Chain → ℕ
-ofChain steps c = bitOr (cond (eqb (c .root) 2) bit.THIS 0) (ofSteps (stepsOf steps c))
+ofChain steps c = bitOr (cond (eqb (c .root) 2) (bit Right.THIS) 0) (ofSteps (stepsOf steps c))
 
 -- ---- of a tag
 
@@ -40,27 +39,27 @@ pub data Need : Type 0 where
   chained : Need
 
 -- in the order of `required_caps`
-abbrev pub needs : List (Row Need)
-needs =
+abbrev pub rightsByTag : List (Row Need)
+rightsByTag =
     (chained for CHAIN ∷ [])
-    ∷ (fixed bit.FN-PTR for MAKE-FN-PTR ∷ MAKE-CLOSURE ∷ callFnPtrs)
-    ∷ (fixed (bitOr bit.FN-PTR bit.CURRYING) for CURRY ∷ [])
-    ∷ (fixed bit.SHARING for SHARE ∷ SHARE-NAMED ∷ [])
-    ∷ (fixed bit.THIS for REQUIRE-THIS ∷ LOAD-THIS ∷ LOAD-THIS-SHARED ∷ ASSIGN-THIS ∷ ASSIGN-THIS-OP ∷ [])
-    ∷ (fixed bit.ARRAY for MAKE-ARRAY ∷ [])
-    ∷ (fixed bit.MAP for MAKE-MAP ∷ [])
-    ∷ (fixed bit.SHARING for IS-SHARED ∷ [])
-    ∷ (fixed bit.CUSTOM-SYNTAX for CUSTOM-SYNTAX ∷ [])
-    ∷ (fixed bit.EXPORT for EXPORT-LOCAL ∷ EXPORT-NAMED ∷ [])
-    ∷ (fixed bit.IMPORT for IMPORT ∷ [])
+    ∷ (fixed (bit Right.FN-PTR) for MAKE-FN-PTR ∷ MAKE-CLOSURE ∷ callFnPtrs)
+    ∷ (fixed (bitOr (bit Right.FN-PTR) (bit Right.CURRYING)) for CURRY ∷ [])
+    ∷ (fixed (bit Right.SHARING) for SHARE ∷ SHARE-NAMED ∷ [])
+    ∷ (fixed (bit Right.THIS) for REQUIRE-THIS ∷ LOAD-THIS ∷ LOAD-THIS-SHARED ∷ ASSIGN-THIS ∷ ASSIGN-THIS-OP ∷ [])
+    ∷ (fixed (bit Right.ARRAY) for MAKE-ARRAY ∷ [])
+    ∷ (fixed (bit Right.MAP) for MAKE-MAP ∷ [])
+    ∷ (fixed (bit Right.SHARING) for IS-SHARED ∷ [])
+    ∷ (fixed (bit Right.CUSTOM-SYNTAX) for CUSTOM-SYNTAX ∷ [])
+    ∷ (fixed (bit Right.EXPORT) for EXPORT-LOCAL ∷ EXPORT-NAMED ∷ [])
+    ∷ (fixed (bit Right.IMPORT) for IMPORT ∷ [])
     ∷ (named 0 for LOAD-NAMED ∷ CALL ∷ CALL-OP ∷ CALL-LOCAL-REF ∷ CALL-NAMED-REF ∷ [])
-    ∷ (named bit.THIS for CALL-THIS-REF ∷ [])
+    ∷ (named (bit Right.THIS) for CALL-THIS-REF ∷ [])
     ∷ []
 
 -- all others need none
-unfoldable pub need : ℕ → Need
+unfoldable pub rightsOfTag : ℕ → Need
 unfolding lookUp among
-need tag = lookUp needs (fixed 0) tag
+rightsOfTag tag = lookUp rightsByTag (fixed 0) tag
 
 -- ---- of the instruction at a place
 
@@ -72,9 +71,10 @@ comesTo name chain chained = chain
 
 module _ (code names chains steps : List ℕ) (p : ℕ) where
   unfoldable pub required : ℕ
-  unfolding need comesTo
+  unfolding rightsOfTag comesTo
   required =
-      comesTo (ofName names (indexAt code p)) (ofChain steps (chainAt chains (indexAt code p))) (need (tagAt code p))
+      comesTo (ofName names (indexAt code p)) (ofChain steps (chainAt chains (indexAt code p)))
+      (rightsOfTag (tagAt code p))
 
 -- what is needed of a word of rights and is not in it
 unfoldable pub lacking : (needed rights : ℕ) → ℕ

@@ -12,9 +12,9 @@ ghost use Rattle.rules.specs.Edges.{falls, plain, armsOf, targetsOf, aft
 ghost use Rattle.rules.specs.Needs.{iteratorsNeeded, handlersNeeded};
 ghost use Rattle.rules.specs.Shapes.{Flow};
 ghost use Rattle.rules.specs.There.{SwitchEntry, SwitchWhole, SwitchThere, HeldBy};
-use answer::Depths;
 use crate::Effect;
 use crate::shapes;
+use answer::Depths;
 use code::tag;
 use pools::CASE_WORDS;
 use pools::SWITCH_WORDS;
@@ -176,7 +176,8 @@ pub fn jump_target(
     requires { ⌜ SwitchThere (now code) (now switches) (now cases) (now ranges) at ⌝ }
     requires { ⌜ k < length (targetsOf (now code) (now switches) (now cases) (now ranges) at) ⌝ }
     ensures { λ r. ⌜ r
-        ≡ getD (targetsOf (now (code .entry)) (now (switches .entry)) (now (cases .entry)) (now (ranges .entry)) at) k 0 ⌝ }
+        ≡ getD
+        (targetsOf (now (code .entry)) (now (switches .entry)) (now (cases .entry)) (now (ranges .entry)) at) k 0 ⌝ }
 {
     if code[at] == tag::SWITCH {
         let i = code::read_u16(code, at + 1) as usize;

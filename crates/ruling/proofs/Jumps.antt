@@ -8,15 +8,15 @@ use native.Mathlib.Numerals.{add-one}
 use native.Mathlib.Omega.{arith}
 use lib.ListN.{length, getD, drop}
 use lib.Seq.{drop-cons, drop-length}
-use Rattle.listing.specs.Listing.{starts}
-use Rattle.marks.specs.Marks.{Holds}
+use Rattle.listing.specs.Starts.{starts}
+use Rattle.marks.specs.Places.{Holds}
 use Rattle.answer.specs.declared.Answer.{Answer}
 use Rattle.answer.specs.declared.Depths.{Depths}
 use Rattle.answer.specs.Depths.{Item}
 use Rattle.demand.specs.Rule.{judge}
 use Rattle.rules.specs.Script.{Script}
 use Rattle.demand.specs.Span.{Span}
-use Rattle.machine.specs.Walk.{firstBad}
+use Rattle.machine.specs.Walk.{firstBadJump}
 use Rattle.answer.specs.declared.Outcome.{Outcome}
 use Rattle.answer.specs.declared.Outcome.the-variants.{Passed, Refused}
 use Rattle.answer.specs.Answer.{told}
@@ -32,20 +32,20 @@ jumps d targets = map (λ (t : ℕ). record { place = t; depths = d }) targets
 
 -- one jump, then those after it
 module _ (test : ℕ → Option Answer) (d : Depths) {t : ℕ} (ts : List ℕ) {r : Outcome} (e : told r ≡ test t) where
-  goes-on : r ≡ Passed → firstBad test (jumps d (t ∷ ts)) ≡ firstBad test (jumps d ts)
-  unfolding firstBad told
+  goes-on : r ≡ Passed → firstBadJump test (jumps d (t ∷ ts)) ≡ firstBadJump test (jumps d ts)
+  unfolding firstBadJump told
   goes-on p = rw (← e, p)
 
-  stops : {answer : Answer} → r ≡ Refused answer → told r ≡ firstBad test (jumps d (t ∷ ts))
-  unfolding firstBad told
+  stops : {answer : Answer} → r ≡ Refused answer → told r ≡ firstBadJump test (jumps d (t ∷ ts))
+  unfolding firstBadJump told
   stops p = rw (← e, p)
 
 -- the targets before the one at hand are good
 pub record Good (marks targets : List ℕ) (entry end at k : ℕ) : Type 0 where
   pub within : k ≤ length targets
   pub left : (S : Script) (declared : ℕ) (d : Depths) → Holds marks (starts (S .code))
-      → firstBad (judge S (span entry end declared) at) (jumps d (drop k targets))
-      ≡ firstBad (judge S (span entry end declared) at) (jumps d targets)
+      → firstBadJump (judge S (span entry end declared) at) (jumps d (drop k targets))
+      ≡ firstBadJump (judge S (span entry end declared) at) (jumps d targets)
 
 pub none-yet : (marks targets : List ℕ) (entry end at : ℕ) → Good marks targets entry end at 0
 none-yet marks targets entry end at = record { within = omega arith; left = λ S declared d h. refl }
@@ -53,8 +53,8 @@ none-yet marks targets entry end at = record { within = omega arith; left = λ S
 module _ {marks targets : List ℕ} {entry end at k : ℕ} (inv : Good marks targets entry end at k) where
   -- past the last one none is refused
   pub all-good : length targets ≤ k → (S : Script) (declared : ℕ) (d : Depths) → Holds marks (starts (S .code))
-      → none ≡ firstBad (judge S (span entry end declared) at) (jumps d targets)
-  unfolding firstBad
+      → none ≡ firstBadJump (judge S (span entry end declared) at) (jumps d targets)
+  unfolding firstBadJump
   all-good l S declared d h =
       let past : k ≡ length targets = omega arith in
       rw (past, drop-length) at (inv .left S declared d h)
@@ -65,10 +65,10 @@ module _ {marks targets : List ℕ} {entry end at k : ℕ} (inv : Good marks tar
     here = rw (e, add-one, drop-cons targets k 0 l)
 
     in-turn : (S : Script) (declared : ℕ) (d : Depths) → Holds marks (starts (S .code))
-        → firstBad (judge S (span entry end declared) at) (jumps d (t ∷ drop (k + 1) targets))
-        ≡ firstBad (judge S (span entry end declared) at) (jumps d targets)
+        → firstBadJump (judge S (span entry end declared) at) (jumps d (t ∷ drop (k + 1) targets))
+        ≡ firstBadJump (judge S (span entry end declared) at) (jumps d targets)
     in-turn S declared d h =
-        ap (λ (ts : List ℕ). firstBad (judge S (span entry end declared) at) (jumps d ts)) here ∙ inv .left S declared d h
+        ap (λ (ts : List ℕ). firstBadJump (judge S (span entry end declared) at) (jumps d ts)) here ∙ inv .left S declared d h
 
     module _ {r : Outcome} (tested : told r ≡ jumpTest marks entry end at t) where
       pub one-more : r ≡ Passed → Good marks targets entry end at (k + 1)
@@ -79,6 +79,6 @@ module _ {marks targets : List ℕ} {entry end at k : ℕ} (inv : Good marks tar
       }
 
       pub refused : {answer : Answer} → r ≡ Refused answer → (S : Script) (declared : ℕ) (d : Depths) → Holds marks (starts (S .code))
-          → told r ≡ firstBad (judge S (span entry end declared) at) (jumps d targets)
+          → told r ≡ firstBadJump (judge S (span entry end declared) at) (jumps d targets)
       refused p S declared d h =
           stops (judge S (span entry end declared) at) d (drop (k + 1) targets) (tested ∙ judged S (span entry end declared) at t h) p ∙ in-turn S declared d h

@@ -14,7 +14,6 @@ use Rattle.demand.specs.Span.{Span}
 use Rattle.answer.proofs.Apart.{zero≢one}
 use Rattle.demand.proofs.Says.{Says, says, no-rights, no-operands, no-iterator, no-handler, no-next, goes}
 use Rattle.ruling.specs.declared.Edges.{Edges}
-use Rattle.ruling.specs.declared.Ruling.{Ruling}
 use Rattle.ruling.specs.declared.Ruling.the-variants.{Denies, Gives}
 use Rattle.ruling.specs.Ruling.{answers, edgesOf, ruled}
 

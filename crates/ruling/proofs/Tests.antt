@@ -14,11 +14,12 @@ use Rattle.code.specs.Width.{widthOf, widthAt}
 use Rattle.code.proofs.Widths.{width-there}
 use Rattle.rules.specs.Acts.{Acts}
 use Rattle.answer.specs.declared.Answer.{Answer}
-use Rattle.answer.specs.declared.Answer.the-variants.{MissingCaps, Underflow, FallsOffTheEnd, IteratorUnderflow, HandlerUnderflow}
+use Rattle.answer.specs.declared.Answer.the-variants.{MissingCaps, Underflow, FallsOffTheEnd, IteratorUnderflow}
+use Rattle.answer.specs.declared.Answer.the-variants.{HandlerUnderflow}
 use Rattle.answer.specs.declared.Depths.{Depths}
 use Rattle.rules.specs.declared.Effect.{Effect}
 use Rattle.rules.specs.Edges.{falls, plain, after, afterOf, jumpedOf, next}
-use Rattle.rules.specs.Effects.{needs, pops, pushes}
+use Rattle.rules.specs.Effects.{pops, pushes}
 use Rattle.machine.specs.Machine as machine
 use Rattle.rules.specs.Needs.{iteratorsNeeded, handlersNeeded}
 use Rattle.rules.specs.Rights.{required, lacking}

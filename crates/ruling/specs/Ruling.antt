@@ -1,23 +1,21 @@
--- What the code says of one instruction of a chunk, as the rule of its machine says it: the tests of its needs, then the edges; and
--- the tests of one jump. Document 01, "Order of the tests": "rights (kind 4, p only what lacks); 12; 15 for ITER_DROP, 16 for
--- POP_HANDLER; then edges, each target tested for 9, then 10, and the fall-through pushed last. ITER_NEXT* tests 15 before its
--- target [...]. A plain instruction whose successor is not before the end gives 13."
+-- What the code says of one instruction of a chunk, as the rule of its machine says it: the tests of its needs, then
+-- the edges; and the tests of one jump. Document 01, "Order of the tests": "rights (kind 4, p only what lacks); 12; 15
+-- for ITER_DROP, 16 for POP_HANDLER; then edges, each target tested for 9, then 10, and the fall-through pushed last.
+-- ITER_NEXT* tests 15 before its target [...]. A plain instruction whose successor is not before the end gives 13."
 use mathlib.Core.Bool.{_&&_, _||_, cond}
 use mathlib.Core.List.{List}
 use mathlib.Core.Option.{Option, none, some}
 use Prim.Native.Nat.{ℕ, _+_, _^_, _≤_, _<_}
 use lib.Dec.{ltb, leb}
-use Rattle.marks.specs.Marks.{bitAt, isOne}
-use Rattle.answer.specs.Answer.{unless}
-use Rattle.answer.specs.declared.Answer.{Answer}
-use Rattle.answer.specs.declared.Answer.the-variants.{JumpOutOfRange, JumpIntoAnInstruction, FallsOffTheEnd}
-use Rattle.answer.specs.declared.Depths.{Depths}
+use Rattle.answer.specs.Answer.{unless, Answer, JumpOutOfRange, JumpIntoAnInstruction, FallsOffTheEnd}
+use Rattle.answer.specs.Depths.{Depths}
+use Rattle.demand.specs.Rule.{needsTest, rule}
+use Rattle.demand.specs.Span.{Span}
+use Rattle.machine.specs.Machine as machine
+use Rattle.marks.specs.Places.{bitAt, isOne}
 use Rattle.rules.specs.declared.Effect.{Effect}
 use Rattle.rules.specs.Edges.{falls, plain, afterOf, jumpedOf, after, jumped, next}
-use Rattle.machine.specs.Machine as machine
-use Rattle.demand.specs.Rule.{needsTest, rule}
 use Rattle.rules.specs.Script.{Script, tagOf}
-use Rattle.demand.specs.Span.{Span}
 use Rattle.rules.specs.Shapes.{Flow}
 use Rattle.ruling.specs.declared.Edges.{Edges}
 use Rattle.ruling.specs.declared.Ruling.{Ruling}
@@ -36,15 +34,16 @@ edgesFrom tag pops pushes next d = record {
 
 -- 13 where it is plain and the place after it is not before the end; else the edges
 unfoldable pub leaving : (tag pops pushes next end : ℕ) → Depths → Ruling
-leaving tag pops pushes next end d = cond (plain tag && leb end next) (Denies FallsOffTheEnd) (Gives (edgesFrom tag pops pushes next d))
+leaving tag pops pushes next end d =
+    cond (plain tag && leb end next) (Denies FallsOffTheEnd) (Gives (edgesFrom tag pops pushes next d))
 
 -- the tests of its needs, then the way on, of an instruction of a tag with this effect
 abbrev pub settled : (lacks tag : ℕ) → Effect → (at next end : ℕ) → Depths → Ruling
 settled lacks tag effect at next end d =
     unless Denies (needsTest lacks tag (effect .needs) at d) (leaving tag (effect .pops) (effect .pushes) next end d)
 
--- what settling builds on: a tag of this flow, an effect that pops what is needed at most and pushes one at most, and depths of
--- which one more fits a word of 32 bits
+-- what settling builds on: a tag of this flow, an effect that pops what is needed at most and pushes one at most, and
+-- depths of which one more fits a word of 32 bits
 pub record Settles (flow : ℕ) (effect : Effect) (d : Depths) : Type 0 where
   pub tag : ℕ
   pub flows : Flow tag flow

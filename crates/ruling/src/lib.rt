@@ -1,7 +1,6 @@
 // One instruction of a chunk at given depths: what its rule says of it, and whether its jumps are good.
-// Every answer is the one that the rule and the judge of document 01's machine give, for whatever passed the checks before; one
-// jump by itself is tested by the bits of any marks.
-// Left to the walk that calls it: which places are taken in which order, and the depths seen at them.
+// Every answer is that of the rule and the judge of document 01's machine, of whatever passed the checks before.
+// Left to `walk`: which places are taken in which order, and the depths seen at them.
 ghost use mathlib.Core.Bool.{_||_};
 ghost use mathlib.Core.List.{List, map};
 ghost use mathlib.Core.Path.{_≡_};
@@ -10,25 +9,25 @@ ghost use lib.Dec.{ltb, leb};
 ghost use lib.ListN.{length};
 ghost use Rattle.code.specs.Layout.{tagAt};
 ghost use Rattle.code.specs.Width.{widthAt};
-ghost use Rattle.listing.specs.Listing.{starts};
-ghost use Rattle.marks.specs.Marks.{Holds};
+ghost use Rattle.listing.specs.Starts.{starts};
+ghost use Rattle.marks.specs.Places.{Holds};
 ghost use Rattle.pools.specs.Sizes.{maxCode};
 ghost use Rattle.answer.specs.declared.Depths.{Depths};
 ghost use Rattle.rules.specs.Edges.{targetsOf};
 ghost use Rattle.demand.specs.Rule.{needsTest, judge};
 ghost use Rattle.rules.specs.Shapes.{Shape, Flow};
 ghost use Rattle.rules.specs.There.{NameThere, ChainThere, SwitchThere, HeldBy};
-ghost use Rattle.machine.specs.Walk.{firstBad};
+ghost use Rattle.machine.specs.Walk.{firstBadJump};
 ghost use Rattle.answer.specs.Answer.{told};
-ghost use Rattle.rules.specs.Script.{script};
+ghost use Rattle.rules.specs.FromLists.{script};
 ghost use Rattle.ruling.specs.Ruling.{leaving, Settles, settled, jumpTest, ruled};
 use answer::Answer;
 use answer::Depths;
-use rules::Effect;
 use answer::Outcome;
+use rules::Effect;
 
-// Where control goes from an instruction: whether it falls through, the place after it, the depths just after it, and those at
-// each of its targets.
+// Where control goes from an instruction: whether it falls through, the place after it, the depths just after it, and
+// those at each of its targets.
 pub struct Edges {
     pub falls: bool,
     pub next: u32,
@@ -42,7 +41,8 @@ pub enum Ruling {
     Gives(Edges),
 }
 
-// Kind 4, with only what lacks, then 12, 15 and 16: has an instruction of this flow the rights and the depths that it needs?
+// Kind 4, with only what lacks, then 12, 15 and 16: has an instruction of this flow the rights and the depths that it
+// needs?
 fn check_needs(missing: u32, flow: u32, needs: u32, at: usize, d: Depths) -> Outcome
     ensures { λ r. ⌜ ((tag : ℕ) → Flow tag flow → told r ≡ needsTest missing tag needs at d) ⌝ }
 {
@@ -69,8 +69,8 @@ fn check_needs(missing: u32, flow: u32, needs: u32, at: usize, d: Depths) -> Out
     Outcome::Passed
 }
 
-// 13 where nothing but the next place is left to go to and it is not before the end; else the edges. For an instruction that
-// has the depths it needs.
+// 13 where nothing but the next place is left to go to and it is not before the end; else the edges. For an instruction
+// that has the depths it needs.
 fn leave(flow: u32, effect: Effect, next: u32, end: u32, d: Depths) -> Ruling
     requires { ⌜ HeldBy flow d ⌝ }
     requires { ⌜ effect .pops ≤ d .operands ⌝ }
@@ -133,7 +133,8 @@ pub fn rule_of(
     requires { ⌜ d .handlers + 1 < 2 ^ 32 ⌝ }
     ensures { λ r. ⌜ ((switches cases ranges : List ℕ) (entry declared : ℕ)
         → r ≡ ruled
-        (script rights (now (names .entry)) (now (chains .entry)) (now (steps .entry)) switches cases ranges (now (code .entry)))
+        (script rights (now (names .entry)) (now (chains .entry)) (now (steps .entry)) switches cases ranges
+        (now (code .entry)))
         (record { entry = entry; end = end; declared = declared }) at d) ⌝ }
 {
     let next = (at + rules::shapes::width_in(word)) as u32;
@@ -194,9 +195,10 @@ pub fn check_jumps(
     requires { ⌜ count ≡ length (targetsOf (now code) (now switches) (now cases) (now ranges) at) ⌝ }
     requires { ⌜ Holds (now marks) (starts (now code)) ⌝ }
     ensures { λ r. ⌜ ((rights : ℕ) (names chains steps : List ℕ) (declared : ℕ) (d : Depths)
-        → told r ≡ firstBad
+        → told r ≡ firstBadJump
         (judge
-        (script rights names chains steps (now (switches .entry)) (now (cases .entry)) (now (ranges .entry)) (now (code .entry)))
+        (script rights names chains steps (now (switches .entry)) (now (cases .entry)) (now (ranges .entry))
+        (now (code .entry)))
         (record { entry = entry; end = end; declared = declared }) at)
         (map (λ (t : ℕ). record { place = t; depths = d })
         (targetsOf (now (code .entry)) (now (switches .entry)) (now (cases .entry)) (now (ranges .entry)) at))) ⌝ }

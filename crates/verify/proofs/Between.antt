@@ -8,11 +8,12 @@ use native.Mathlib.Decide.{decLe}
 use native.Mathlib.Omega.{arith}
 use borrow.Author.Tests.{le-leb, lt-leb, ltb-true, ltb-false}
 use lib.ListN.{length, set, replicate, length-replicate}
-use Rattle.before.specs.Before.{Test, beforeChunks}
+use Rattle.before.specs.Before.{Test}
+use Rattle.before.specs.Calls.{beforeChunks}
 use Rattle.before.specs.Input.{Input}
-use Rattle.before.specs.Memory.{marksAfter, ForChunks}
+use Rattle.before.specs.Calls.{marksAfter, ForChunks}
 use Rattle.before.proofs.Established.{established, marks-count, room}
-use Rattle.listing.specs.Listing.{starts}
+use Rattle.listing.specs.Starts.{starts}
 use Rattle.marks.specs.Marks.{total}
 use Rattle.opening.specs.Ready.{Ready, Marked}
 use Rattle.pools.specs.Sizes.{maxChunks}
@@ -25,20 +26,22 @@ use Rattle.answer.specs.declared.Outcome.{Outcome}
 use Rattle.answer.specs.declared.Outcome.the-variants.{Passed, Refused}
 use Rattle.answer.specs.declared.verdict.Verdict.{Verdict}
 use Rattle.rules.specs.Script.{Script}
-use Rattle.demand.specs.Span.{Span}
+use Rattle.demand.specs.Span.{Span, chunkAt}
 use Rattle.answer.proofs.Apart.{zero≢one}
 use Rattle.judging.specs.declared.Judgement.{Judgement}
 use Rattle.judging.specs.declared.Judgement.the-variants.{Passed as AllPass, Refused as Failed}
 use Rattle.verify.specs.declared.stages.State.{State}
 use Rattle.verify.specs.declared.stages.State.the-variants.{Going, Ended}
-use Rattle.judging.specs.Spans.{chunkAt}
-use Rattle.verify.specs.Call.{Memory, BothClear, marksOn, Calls}
-use Rattle.judging.specs.Judging.{JudgedAll, judgeAll, Judges}
-use Rattle.judging.specs.Bounds.{mostReached, mostTaken}
-use Rattle.verify.specs.Stages.{opened, wordsOn, Begins, advanced, marksThen, Advances, Fits, Few, Asks, Takes, goesOn, finished}
-use Rattle.judging.proofs.Chain.{judge-passes, judge-fails, judge-none, Judging, judging-first, judging-done, judging-fails, judging-passes}
+use Rattle.verify.specs.Call.{Memory, marksOn, Calls}
+use Rattle.verify.specs.Stages.{BothClear, opened, wordsOn, Begins, advanced, marksThen, Advances, Fits, Few}
+use Rattle.verify.specs.Stages.{ReadyForChunk, Takes, goesOn, finished}
+use Rattle.judging.specs.Judging.{JudgedAll, judgeAll}
+use Rattle.judging.specs.Judges.{Judges, mostTaken, mostReached}
+use Rattle.judging.proofs.Chain.{judge-passes, judge-fails, judge-none, Judging, judging-first, judging-done}
+use Rattle.judging.proofs.Chain.{judging-fails, judging-passes}
 use Rattle.verify.proofs.Small.{small}
-use Rattle.verify.proofs.Whole.{bare, ready, untouched, zeroed-all, marked-so, starts-small, judged-call, zeros-still, concludes-passed, concludes-refused}
+use Rattle.verify.proofs.Whole.{bare, ready, untouched, zeroed-all, marked-so, starts-small, judged-call}
+use Rattle.verify.proofs.Whole.{zeros-still, concludes-passed, concludes-refused}
 
 -- ---- everything before the chunks
 
@@ -302,7 +305,7 @@ module _ (I : Input) (spans : List Span) (before : Memory) where
   module _ (number : ℕ) (marks heights records work : List ℕ) where
     -- what taking a chunk asks
     pub stands-asks : I .chunks ≡ length spans → (state : State) → Stands state number marks heights records work → goesOn state number (length spans) ≡ true
-        → Asks S number state marks heights records work
+        → ReadyForChunk S number state marks heights records work
     unfolding goesOn told Few
     stands-asks every (Going instructions reached taken) w e =
         let left = ltb-true number (length spans) e in

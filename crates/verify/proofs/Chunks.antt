@@ -16,20 +16,18 @@ use Rattle.verify.proofs.Walkable.{before-walk}
 use Rattle.code.specs.Layout.{among}
 use Rattle.code.specs.Width.{widthOf}
 use Rattle.code.proofs.Among.{among-member, member-among}
-use Rattle.listing.specs.Listing.{Start, starts}
+use Rattle.listing.specs.Starts.{Start, starts}
 use Rattle.listing.proofs.Starts.{listed-start, start-listed}
-use Rattle.demand.specs.Span.{InCode}
+use Rattle.demand.specs.Span.{InCode, T, E, Span}
 use Rattle.opening.proofs.Tests.{span-exactly, room-exactly}
 use Rattle.answer.specs.Answer.{numbered, unless}
-use Rattle.demand.specs.Chunk.{spanTest, roomTest, openTest, Judged, passes, fails, judgeChunk, BeforeWalk}
-use Rattle.demand.specs.Span.{T, E}
+use Rattle.demand.specs.Chunk.{spanTest, roomTest, openTest, Judged, passes, fails, judgeChunk}
+use Rattle.demand.specs.BeforeWalk.{BeforeWalk}
 use Rattle.rules.specs.Edges.{degree}
 use Rattle.machine.specs.Lists.{sumOf}
-use Rattle.demand.specs.Measures.{Measures}
+use Rattle.demand.specs.Writing.{Measures, Writing}
 use Rattle.demand.specs.Refusals.{Real, Exceeds}
 use Rattle.rules.specs.Script.{Script}
-use Rattle.demand.specs.Span.{Span}
-use Rattle.demand.specs.Writing.{Writing}
 use Rattle.answer.specs.declared.Answer.{Answer}
 use Rattle.answer.specs.declared.Answer.the-variants.{NoRoom, ChunkOutOfRange, Misaligned}
 use Rattle.demand.proofs.Demand.{judged-shut, judged-walks, accepted-exactly, accepted-measures, refused-really}

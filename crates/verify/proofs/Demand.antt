@@ -18,18 +18,17 @@ use Rattle.demand.specs.Chunk.{passes, fails}
 use Rattle.demand.specs.Chunk as chunk
 use Rattle.answer.specs.declared.Answer.{Answer}
 use Rattle.answer.specs.declared.verdict.Verdict.{Verdict}
-use Rattle.demand.specs.Span.{Span}
+use Rattle.demand.specs.Span.{Span, chunkAt}
 use Rattle.demand.specs.Writing.{Writing}
 use Rattle.answer.proofs.Apart.{zero≢one}
-use Rattle.judging.specs.Spans.{chunkAt}
 use Rattle.verify.specs.Call.{Memory, afterLateTests, afterEarlyTests, result, Calls}
-use Rattle.verify.specs.Demand.{OpeningKind, WalkKind, ComesToChunks, OpensAt, ShutAt, FailsWalkAt, FailsAt}
-use Rattle.verify.specs.Demand.{Good, Acceptable, RefusedFor, Fills}
+use Rattle.verify.specs.Demand.{OpeningKind, WalkKind, ComesToChunks, OpensAt, ShutAt, FailsWalkAt, FailsAt, Good}
+use Rattle.verify.specs.Demand.{Acceptable, RefusedFor, Fills}
 use Rattle.verify.proofs.Accounts.{judgedAt, passes-at, Ways, all-pass, one-fails, ways, known, PassesIn}
 use Rattle.verify.proofs.Accounts.{refuses, fills-before, accepts-kind, accepts-chunk, fills-all, all-passed}
 use Rattle.verify.proofs.Accounts.{accounted}
-use Rattle.verify.proofs.Chunks.{passes-opens, passes-written, written-passes}
-use Rattle.verify.proofs.Chunks.{fails-really, fails-for, fails-refuses}
+use Rattle.verify.proofs.Chunks.{passes-opens, passes-written, written-passes, fails-really, fails-for}
+use Rattle.verify.proofs.Chunks.{fails-refuses}
 use Rattle.verify.proofs.Sorts.{early-kind, late-kind, shut-kind, real-kind, walk-refuses, kinds-apart}
 
 module _ (I : Input) (spans : List Span) (before : Memory) where

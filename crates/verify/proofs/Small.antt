@@ -1,20 +1,20 @@
 -- The counts of a chunk that passes are small.
 use mathlib.Core.Path.{_≡_, sym, _∙_}
-use Prim.Native.Nat.{ℕ, _+_, _^_, _≤_}
+use Prim.Native.Nat.{ℕ, _+_, _≤_}
 use native.Mathlib.Omega.{arith}
 use Rattle.opening.specs.Ready.{Ready}
 use Rattle.pools.proofs.Most.{code-small, room-small}
-use Rattle.demand.specs.Chunk.{passes, walked, judgeChunk, BeforeWalk}
-use Rattle.demand.specs.Span.{E}
+use Rattle.demand.specs.Chunk.{passes, walked, judgeChunk}
+use Rattle.demand.specs.BeforeWalk.{BeforeWalk}
+use Rattle.demand.specs.Span.{E, Span}
 use Rattle.demand.specs.Rule.{machine}
 use Rattle.rules.specs.Script.{Script}
-use Rattle.demand.specs.Span.{Span}
-use Rattle.demand.proofs.Demand.{fails-by, passes-to, Height, above, within, within-or-above}
-use Rattle.demand.proofs.Demand.{Told, accepts, refuses, walk-told, judged-walks, few-instructions}
+use Rattle.demand.proofs.Demand.{fails-by, passes-to, Height, above, within, within-or-above, Told, accepts, refuses}
+use Rattle.demand.proofs.Demand.{walk-told, judged-walks, few-instructions}
 use Rattle.machine.proofs.Ends.{accepted-bounded}
 use Rattle.demand.proofs.Keeps.{keeps-laws}
 use Rattle.answer.proofs.Apart.{zero≢one}
-use Rattle.judging.specs.Bounds.{mostReached, mostTaken}
+use Rattle.judging.specs.Judges.{mostTaken, mostReached}
 use Rattle.verify.proofs.Chunks.{passes-opens}
 use Rattle.judging.proofs.Walking.{few-edges}
 

@@ -5,9 +5,9 @@ use Prim.Native.Nat.{ℕ, _+_, _*_, _≤_}
 use lib.Dec.{eqb}
 use lib.ListN.{length}
 use Rattle.code.specs.Layout.{among}
-use Rattle.listing.specs.Listing.{starts}
+use Rattle.listing.specs.Starts.{starts}
 use Rattle.pools.proofs.TableLaws.{chains-within, switches-within}
-use Rattle.demand.specs.Chunk.{BeforeWalk}
+use Rattle.demand.specs.BeforeWalk.{BeforeWalk}
 use Rattle.demand.specs.Span.{T, E, Span}
 use Rattle.before.specs.Input.{Input}
 use Rattle.before.proofs.Established.{Established, chain-there, switch-there}

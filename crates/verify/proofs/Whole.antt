@@ -6,13 +6,13 @@ use mathlib.Core.Path.{_≡_, refl, sym, ap, _∙_}
 use Prim.Native.Nat.{ℕ, _+_, _^_, _≤_, _<_}
 use native.Mathlib.Omega.{arith}
 use lib.ListN.{length, set, replicate, length-replicate}
-use Rattle.before.specs.Before.{Test, first, beforeStores, afterStores, beforeChunks}
+use Rattle.before.specs.Before.{Test, first, beforeStores, afterStores, marksOf}
+use Rattle.before.specs.Calls.{beforeChunks, marksFrom, ForChunks}
 use Rattle.before.specs.Input.{Input}
-use Rattle.before.specs.Memory.{marksOf, marksFrom, ForChunks}
 use Rattle.before.proofs.Established as known
 use Rattle.code.specs.Width.{widthOf}
 use Rattle.code.proofs.Widths.{width-there}
-use Rattle.listing.specs.Listing.{starts}
+use Rattle.listing.specs.Starts.{starts}
 use Rattle.listing.proofs.Starts.{listed-start, rising, start-wide}
 use Rattle.marks.specs.Marks.{total}
 use Rattle.marks.proofs.Counts.{rising-length}
@@ -29,19 +29,21 @@ use Rattle.answer.specs.declared.Outcome.{Outcome}
 use Rattle.answer.specs.declared.Outcome.the-variants.{Passed, Refused}
 use Rattle.answer.specs.declared.verdict.Verdict.{Verdict}
 use Rattle.code.specs.Layout.{among}
-use Rattle.demand.specs.Span.{T, E, chunkStarts}
+use Rattle.demand.specs.Span.{T, E, chunkStarts, Span}
 use Rattle.rules.specs.Edges.{degree, next, targets}
 use Rattle.machine.specs.Machine.{Machine}
 use Rattle.demand.specs.Rule.{rule, judge, allTargets, machine}
 use Rattle.machine.specs.Walk.{walk, log}
-use Rattle.rules.specs.Script.{Script, script}
-use Rattle.demand.specs.Span.{Span}
+use Rattle.rules.specs.Script.{Script}
+use Rattle.rules.specs.FromLists.{script}
 use Rattle.answer.proofs.Apart.{zero≢one}
-use Rattle.judging.specs.Judging.{judgeAll, Judges}
+use Rattle.judging.specs.Judging.{judgeAll}
+use Rattle.judging.specs.Judges.{Judges}
 use Rattle.judging.specs.declared.Judgement.{Judgement}
 use Rattle.judging.specs.declared.Judgement.the-variants.{Passed as AllPass, Refused as Failed}
-use Rattle.verify.specs.Call.{Memory, BothClear, verdictOn, marksOn, startBits}
-use Rattle.verify.specs.Call.{afterChunks, afterLateTests, afterEarlyTests, result, Calls}
+use Rattle.verify.specs.Call.{Memory, verdictOn, marksOn, startBits, afterChunks, afterLateTests, afterEarlyTests}
+use Rattle.verify.specs.Call.{result, Calls}
+use Rattle.verify.specs.Stages.{BothClear}
 use Rattle.verify.specs.Demand.{ComesToChunks}
 use Rattle.verify.proofs.Accounts.{accounted}
 use Rattle.judging.proofs.Chain.{judge-passes, judge-fails}

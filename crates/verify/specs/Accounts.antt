@@ -1,20 +1,16 @@
--- What a call answers for in terms of its chunks' paths: its heights as far as it comes, and, accepted, every chunk. The customer's
--- third demand, of each chunk: "depths can be written beside some of its instruction starts so that [...]", and "The height answered
--- is then the largest such depth on any path from the entry, and some path attains it". Document 01, "What comes back": "On
--- acceptance: the instructions in the code, [...]; reached and taken, summed over the chunks", and "heights hold a measured height
--- for each chunk before the one refused (all, if accepted), the others untouched".
--- Nothing here knows how a chunk is judged.
+-- What a call answers for in terms of its chunks' paths: its heights as far as it comes, and, accepted, every chunk:
+-- the customer's third demand of each. Document 01, "What comes back": "On acceptance: the instructions in the code,
+-- [...]; reached and taken, summed over the chunks", and "heights hold a measured height for each chunk before the one
+-- refused (all, if accepted), the others untouched". Nothing here knows how a chunk is judged.
 use mathlib.Core.List.{List}
 use mathlib.Core.Path.{_≡_}
 use Prim.Native.Nat.{ℕ, zero, suc, _+_, _≤_, _<_}
 use lib.ListN.{length, getD}
-use Rattle.listing.specs.Listing.{starts}
-use Rattle.answer.specs.declared.verdict.Verdict.{Verdict}
-use Rattle.demand.specs.Measures.{Measures}
+use Rattle.answer.specs.Answer.{Verdict}
+use Rattle.demand.specs.Span.{Span, chunkAt}
+use Rattle.demand.specs.Writing.{Measures, Writing}
+use Rattle.listing.specs.Starts.{starts}
 use Rattle.rules.specs.Script.{Script}
-use Rattle.demand.specs.Span.{Span}
-use Rattle.demand.specs.Writing.{Writing}
-use Rattle.judging.specs.Spans.{chunkAt}
 
 -- the sum of f i over the numbers i below n
 unfoldable pub sumBelow : (f : ℕ → ℕ) (n : ℕ) → ℕ

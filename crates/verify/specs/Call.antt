@@ -1,24 +1,19 @@
--- The whole call: the order of all tests, the verdict, and what the lent memory holds on return. Document 01, "Order of the
--- tests", and "What comes back": "Kinds 1, 2, and 3 for marks or heights come before any store. Every later return zeroes all of
--- records and work; all of marks holds the starts' bits after acceptance, zeros after refusal; heights hold a measured height for
--- each chunk before the one refused (all, if accepted), the others untouched."
+-- The whole call: the order of all tests, the verdict, and what the lent memory holds on return. Document 01, "Order of
+-- the tests", and "What comes back": "Kinds 1, 2, and 3 for marks or heights come before any store. Every later return
+-- zeroes all of records and work; all of marks holds the starts' bits after acceptance, zeros after refusal; heights
+-- hold a measured height for each chunk before the one refused (all, if accepted), the others untouched."
 use mathlib.Core.List.{List}
 use mathlib.Core.Option.{none, some}
 use mathlib.Core.Path.{_≡_}
 use Prim.Native.Nat.{ℕ}
 use lib.ListN.{length, replicate}
-use Rattle.before.specs.Before.{Test, beforeStores, afterStores}
+use Rattle.answer.specs.Answer.{noChunk, numbered, Accepted, Verdict}
+use Rattle.before.specs.Before.{Test, beforeStores, afterStores, marksOf}
 use Rattle.before.specs.Input.{Input}
-use Rattle.before.specs.Memory.{marksOf}
-use Rattle.marks.specs.Marks.{total}
-use Rattle.answer.specs.Answer.{noChunk, numbered}
-use Rattle.answer.specs.declared.Answer.the-variants.{Accepted}
-use Rattle.answer.specs.declared.verdict.Verdict.{Verdict}
 use Rattle.demand.specs.Span.{Span}
-use Rattle.judging.specs.declared.Judgement.{Judgement}
-use Rattle.judging.specs.declared.Judgement.the-variants.{Passed, Refused}
+use Rattle.judging.specs.Judging.{Judgement, Passed, Refused, JudgedAll, judgeAll}
+use Rattle.marks.specs.Marks.{total}
 use Rattle.verify.specs.Accounts.{Accounted}
-use Rattle.judging.specs.Judging.{JudgedAll, judgeAll}
 
 -- the lent memory
 pub record Memory : Type 0 where
@@ -31,11 +26,6 @@ pub record Memory : Type 0 where
 pub record Result : Type 0 where
   pub verdict : Verdict
   pub memory : Memory
-
--- records and work are zeroed
-pub record BothClear (records work records′ work′ : List ℕ) : Type 0 where
-  pub records-zero : records′ ≡ replicate (length records) 0
-  pub work-zero : work′ ≡ replicate (length work) 0
 
 -- the verdict on judged chunks, with the ones in the marks counted, and what marks hold with it
 unfoldable pub verdictOn : Judgement → (marks : List ℕ) → Verdict

@@ -9,21 +9,15 @@ use mathlib.Core.Option.{none}
 use mathlib.Core.Path.{_≡_}
 use Prim.Native.Nat.{ℕ, _+_, _*_, _≤_, _<_}
 use lib.ListN.{length}
+use Rattle.answer.specs.Answer.{numbered, Answer, NoRoom, ChunkOutOfRange, Misaligned, Verdict}
 use Rattle.before.specs.Before.{beforeStores, afterStores}
 use Rattle.before.specs.Input.{Input}
 use Rattle.code.specs.Width.{widthOf}
-use Rattle.listing.specs.Listing.{Start}
-use Rattle.demand.specs.Span.{InCode}
-use Rattle.answer.specs.Answer.{numbered}
-use Rattle.answer.specs.declared.Answer.{Answer}
-use Rattle.answer.specs.declared.Answer.the-variants.{NoRoom, ChunkOutOfRange, Misaligned}
-use Rattle.answer.specs.declared.verdict.Verdict.{Verdict}
-use Rattle.demand.specs.Span.{T, E}
 use Rattle.demand.specs.Refusals.{Real, Exceeds}
-use Rattle.rules.specs.Script.{Script}
-use Rattle.demand.specs.Span.{Span}
+use Rattle.demand.specs.Span.{InCode, T, E, Span, chunkAt}
 use Rattle.demand.specs.Writing.{Writing}
-use Rattle.judging.specs.Spans.{chunkAt}
+use Rattle.listing.specs.Starts.{Start}
+use Rattle.rules.specs.Script.{Script}
 use Rattle.verify.specs.Accounts.{Filled}
 use Rattle.verify.specs.Call.{Memory}
 

@@ -1,6 +1,7 @@
--- The whole call in stages. Document 01, "Order of the tests": what stands before the chunks there, then "chunks upward. The first
--- refusal met ends the whole call"; "What comes back": "Kinds 1, 2, and 3 for marks or heights come before any store. Every later
--- return zeroes all of records and work", and "reached and taken, summed over the chunks".
+-- The whole call in stages. Document 01, "Order of the tests": what stands before the chunks there, then "chunks
+-- upward. The first refusal met ends the whole call"; "What comes back": "Kinds 1, 2, and 3 for marks or heights come
+-- before any store. Every later return zeroes all of records and work", and "reached and taken, summed over the
+-- chunks".
 use mathlib.Core.Bool.{Bool, false, cond}
 use mathlib.Core.List.{List, [], _∷_}
 use mathlib.Core.Option.{none, some}
@@ -8,24 +9,20 @@ use mathlib.Core.Path.{_≡_}
 use Prim.Native.Nat.{ℕ, _+_, _*_, _^_, _≤_, _<_}
 use lib.Dec.{leb, ltb}
 use lib.ListN.{length, replicate}
-use Rattle.before.specs.Before.{Test, beforeChunks}
+use Rattle.answer.specs.Answer.{noChunk, numbered, Accepted, Verdict}
+use Rattle.before.specs.Before.{Test}
+use Rattle.before.specs.Calls.{beforeChunks, marksAfter}
 use Rattle.before.specs.Input.{Input}
-use Rattle.before.specs.Memory.{marksAfter}
+use Rattle.demand.specs.Span.{Span}
+use Rattle.judging.specs.Judges.{mostReached, mostTaken}
+use Rattle.judging.specs.Judging.{Judgement, Passed, Refused, JudgedAll, judgeAll}
 use Rattle.marks.specs.Marks.{total}
 use Rattle.opening.specs.Ready.{Ready, Marked}
 use Rattle.pools.specs.Sizes.{maxChunks}
-use Rattle.answer.specs.Answer.{noChunk, numbered}
-use Rattle.answer.specs.declared.Answer.the-variants.{Accepted}
-use Rattle.answer.specs.declared.verdict.Verdict.{Verdict}
 use Rattle.rules.specs.Script.{Script}
-use Rattle.demand.specs.Span.{Span}
-use Rattle.judging.specs.declared.Judgement.{Judgement}
-use Rattle.judging.specs.declared.Judgement.the-variants.{Passed, Refused}
+use Rattle.verify.specs.Call.{marksOn}
 use Rattle.verify.specs.declared.stages.State.{State}
 use Rattle.verify.specs.declared.stages.State.the-variants.{Going, Ended}
-use Rattle.verify.specs.Call.{marksOn}
-use Rattle.judging.specs.Judging.{JudgedAll, judgeAll}
-use Rattle.judging.specs.Bounds.{mostReached, mostTaken}
 
 -- ---- before the chunks
 
@@ -39,18 +36,25 @@ unfoldable pub wordsOn : Test → List ℕ → List ℕ
 wordsOn none words = replicate (length words) 0
 wordsOn (some a) words = cond (leb (numbered noChunk a .kind) 3) words (replicate (length words) 0)
 
+-- records and work are zeroed
+pub record BothClear (records work records′ work′ : List ℕ) : Type 0 where
+  pub records-zero : records′ ≡ replicate (length records) 0
+  pub work-zero : work′ ≡ replicate (length work) 0
+
 -- what a call for everything before the chunks comes to, with room for so many heights
-pub record Begins (I : Input) (heights : ℕ) (marks records work : List ℕ) (r : State) (marks′ records′ work′ : List ℕ) : Type 0 where
-  pub state : r ≡ opened (beforeChunks I (length marks) heights) (total marks′)
-  pub bits : marks′ ≡ marksAfter I heights marks
-  pub records-on : records′ ≡ wordsOn (beforeChunks I (length marks) heights) records
-  pub work-on : work′ ≡ wordsOn (beforeChunks I (length marks) heights) work
+module _ (I : Input) (heights : ℕ) (marks records work : List ℕ) where
+  pub record Begins (r : State) (marks′ records′ work′ : List ℕ) : Type 0 where
+    pub state : r ≡ opened (beforeChunks I (length marks) heights) (total marks′)
+    pub bits : marks′ ≡ marksAfter I heights marks
+    pub records-on : records′ ≡ wordsOn (beforeChunks I (length marks) heights) records
+    pub work-on : work′ ≡ wordsOn (beforeChunks I (length marks) heights) work
 
 -- ---- the chunks
 
 -- the state after more chunks are judged, and what marks hold then
 unfoldable pub advanced : State → Judgement → State
-advanced (Going instructions reached taken) (Passed more further) = Going instructions (reached + more) (taken + further)
+advanced (Going instructions reached taken) (Passed more further) =
+    Going instructions (reached + more) (taken + further)
 advanced (Going instructions reached taken) (Refused chunk a) = Ended (numbered chunk a)
 advanced (Ended verdict) judgement = Ended verdict
 
@@ -58,9 +62,10 @@ unfoldable pub marksThen : State → Judgement → (marks : List ℕ) → List �
 marksThen (Going instructions reached taken) judgement marks = marksOn judgement marks
 marksThen (Ended verdict) judgement marks = marks
 
-pub record Advances (state : State) (judgement : Judgement) (marks : List ℕ) (r : State) (marks′ : List ℕ) : Type 0 where
-  pub next : r ≡ advanced state judgement
-  pub bits : marks′ ≡ marksThen state judgement marks
+module _ (state : State) (judgement : Judgement) (marks : List ℕ) where
+  pub record Advances (r : State) (marks′ : List ℕ) : Type 0 where
+    pub next : r ≡ advanced state judgement
+    pub bits : marks′ ≡ marksThen state judgement marks
 
 -- the sums fit a `u64`
 unfoldable pub Fits : State → Judgement → Type 0
@@ -74,7 +79,7 @@ Few (Going instructions reached taken) chunks = (reached ≤ chunks * mostReache
 Few (Ended verdict) chunks = Unit {0}
 
 -- what a call for one chunk builds on
-pub record Asks (S : Script) (number : ℕ) (state : State) (marks heights records work : List ℕ) : Type 0 where
+pub record ReadyForChunk (S : Script) (number : ℕ) (state : State) (marks heights records work : List ℕ) : Type 0 where
   pub ready : Ready S
   pub marked : Marked marks (S .code)
   pub records-zero : records ≡ replicate (length records) 0

@@ -1,7 +1,7 @@
-// The chunks of a script judged, and the whole call: the order of all tests, and what the lent memory holds at its end.
+// The whole call, in stages and at once: the order of all tests, and what the lent memory holds at its end.
 // Each answer and every word on return is fixed by what is passed in; `verify` takes any input.
 // Left to the caller: what a host does with a script that passes.
-ghost use Rattle.before.specs.Input.{input};
+ghost use Rattle.before.specs.Parameters.{input};
 ghost use Rattle.verify.specs.Call.{Calls};
 ghost use Rattle.judging.specs.Spans.{spansOf};
 ghost use lib.ListN.{length};
@@ -11,7 +11,7 @@ pub mod stages;
 use answer::verdict::Verdict;
 use stages::State;
 
-// The whole call over flat spans, of any input. There are as many chunks as the shortest of the three lists of spans has.
+// The whole call over flat spans, of any input. There are as many chunks as the shortest of the three lists has spans.
 pub fn verify(
     rights: u32,
     functions: u32,
@@ -37,9 +37,19 @@ pub fn verify(
         (input rights functions constants names tokens «op_assignments» chains steps switches cases ranges code
         (length (spansOf (now (entries .entry)) (now (ends .entry)) (now (declared .entry)))))
         (spansOf (now (entries .entry)) (now (ends .entry)) (now (declared .entry)))
-        (record { marks = now (marks .entry); heights = now (heights .entry); records = now (records .entry); work = now (work .entry) })
+        (record {
+          marks = now (marks .entry);
+          heights = now (heights .entry);
+          records = now (records .entry);
+          work = now (work .entry);
+        })
         r
-        (record { marks = now (marks .exit); heights = now (heights .exit); records = now (records .exit); work = now (work .exit) }) ⌝ }
+        (record {
+          marks = now (marks .exit);
+          heights = now (heights .exit);
+          records = now (records .exit);
+          work = now (work .exit);
+        }) ⌝ }
 {
     let chunks = judging::least(entries.len(), ends.len(), declared.len());
     let room = heights.len();

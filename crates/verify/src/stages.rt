@@ -1,15 +1,14 @@
 // The call in stages: everything before the chunks, chunk after chunk, and the end.
 ghost use mathlib.Core.Path.{_≡_};
 ghost use lib.ListN.{length};
-ghost use Rattle.before.specs.Input.{input};
-ghost use Rattle.rules.specs.Script.{script};
-ghost use Rattle.verify.specs.Call.{BothClear};
-ghost use Rattle.verify.specs.Stages.{Begins, Fits, Advances, Asks, Takes, goesOn, finished};
-use judging::Judgement;
+ghost use Rattle.before.specs.Parameters.{input};
+ghost use Rattle.rules.specs.FromLists.{script};
+ghost use Rattle.verify.specs.Stages.{BothClear, Begins, Fits, Advances, ReadyForChunk, Takes, goesOn, finished};
 use answer::Answer;
 use answer::Outcome;
 use answer::verdict;
 use answer::verdict::Verdict;
+use judging::Judgement;
 
 // A call between two stages: it goes on, with what is counted so far, or it has ended with its verdict.
 pub enum State {
@@ -31,8 +30,8 @@ fn clear_both(records: &mut [u32], work: &mut [u32])
     order::clear_first(work, waited);
 }
 
-// Everything before the chunks, of which there are so many, with room for so many heights. Records and work are zeroed at the
-// first store.
+// Everything before the chunks, of which there are so many, with room for so many heights. Records and work are zeroed
+// at the first store.
 pub fn begin(
     rights: u32,
     functions: u32,
@@ -53,8 +52,8 @@ pub fn begin(
     work: &mut [u32],
 ) -> State
     ensures { λ r. ⌜ Begins
-        (input rights functions constants names tokens «op_assignments» chains steps switches cases ranges code chunks) room
-        (now (marks .entry)) (now (records .entry)) (now (work .entry))
+        (input rights functions constants names tokens «op_assignments» chains steps switches cases ranges code chunks)
+        room (now (marks .entry)) (now (records .entry)) (now (work .entry))
         r (now (marks .exit)) (now (records .exit)) (now (work .exit)) ⌝ }
 {
     let outcome = before::before_chunks(
@@ -138,14 +137,15 @@ pub fn take_span(
     records: &mut [u32],
     work: &mut [u32],
 ) -> State
-    requires { ⌜ Asks
+    requires { ⌜ ReadyForChunk
         (script rights (now names) (now chains) (now steps) (now switches) (now cases) (now ranges) (now code))
         number state (now marks) (now heights) (now records) (now work) ⌝ }
     ensures { λ r. ⌜ Takes
-        (script rights (now (names .entry)) (now (chains .entry)) (now (steps .entry)) (now (switches .entry)) (now (cases .entry))
-        (now (ranges .entry)) (now (code .entry)))
+        (script rights (now (names .entry)) (now (chains .entry)) (now (steps .entry)) (now (switches .entry))
+        (now (cases .entry)) (now (ranges .entry)) (now (code .entry)))
         (length (now (records .entry))) (length (now (work .entry)))
-        (record { entry = entry; end = end; declared = declared }) number state (now (marks .entry)) (now (heights .entry))
+        (record { entry = entry; end = end; declared = declared }) number state
+        (now (marks .entry)) (now (heights .entry))
         r (now (marks .exit)) (now (heights .exit)) (now (records .exit)) (now (work .exit)) ⌝ }
 {
     let judgement = judging::verify_span(

@@ -8,14 +8,15 @@ use Rattle.code.specs.Width.{widthOf}
 use Rattle.listing.proofs.Before.{before-few}
 use Rattle.answer.specs.declared.Answer.{Answer}
 use Rattle.answer.specs.Answer.{unless}
-use Rattle.demand.specs.Chunk.{passes, fails, heightTest, measured, walked, judgeChunk, redeclared, BeforeWalk}
+use Rattle.demand.specs.Chunk.{passes, fails, heightTest, measured, walked, judgeChunk}
+use Rattle.demand.specs.BeforeWalk.{redeclared, BeforeWalk}
 use Rattle.answer.specs.Depths.{Item}
-use Rattle.demand.specs.Span.{E}
+use Rattle.demand.specs.Span.{E, Span}
 use Rattle.machine.specs.Machine.{origin}
 use Rattle.demand.specs.Rule.{machine, rule, judge}
 use Rattle.rules.specs.Script.{Script}
-use Rattle.demand.specs.Span.{Span}
-use Rattle.machine.specs.Walk.{Book, blank, Turn, goes-on, stops, Run, accepted, refused, unfinished, run, walk, Log, log}
+use Rattle.machine.specs.Walk.{Book, blank, Turn, goes-on, stops, Run, accepted, refused, unfinished, run, walk, Log}
+use Rattle.machine.specs.Walk.{log}
 use Rattle.demand.proofs.Demand.{judged-walks, redeclared-before}
 use Rattle.machine.proofs.Ends.{accepted-bounded, refused-bounded}
 use Rattle.demand.proofs.Keeps.{keeps-laws}
@@ -29,7 +30,8 @@ use Rattle.walk.specs.declared.Hand.{Hand}
 use Rattle.opening.specs.declared.Room.{Room}
 use Rattle.opening.specs.Records.{keys, laid}
 use Rattle.walk.specs.Records.{seenStore}
-use Rattle.walk.specs.Units.{itemOf, bookWith, bookOf, firstHand, spanOf, turnOf, Going, GoesOn, Ends}
+use Rattle.walk.specs.Turn.{Ends, GoesOn, WalkAt, turnOf, roomSpan}
+use Rattle.walk.specs.Hand.{firstHand, bookOf, bookWith, itemOf}
 use Rattle.walk.proofs.Store.{Fit, faithful, laid-fit, laid-empty}
 
 measured-as : (declared : ℕ) (b : Book Log) {height reached taken : ℕ} → height ≡ b .height → reached ≡ b .reached → taken ≡ b .taken
@@ -37,9 +39,9 @@ measured-as : (declared : ℕ) (b : Book Log) {height reached taken : ℕ} → h
 unfolding measured
 measured-as declared b h r t = rw (h, r, t) refl
 
-module _ (S : Script) (room : Room) (words rooms : ℕ) (B : BeforeWalk S (spanOf room) words rooms) where
+module _ (S : Script) (room : Room) (words rooms : ℕ) (B : BeforeWalk S (roomSpan room) words rooms) where
   abbrev span : Span
-  span = spanOf room
+  span = roomSpan room
 
   -- a judged chunk is what its walk over the log comes to
   judged-so : (declared : ℕ) {o : Run Answer Log} → walk (machine S span) log (1 + E S span) [] ≡ o
@@ -48,7 +50,7 @@ module _ (S : Script) (room : Room) (words rooms : ℕ) (B : BeforeWalk S (spanO
   judged-so declared e = judged-walks S (redeclared span declared) (redeclared-before S span declared B) ∙ ap (measured declared) e
 
   pub begins : (records work : List ℕ) → length records ≡ words → records ≡ laid S span words → Clear work 0
-      → (h : Hand) → h ≡ firstHand (keys S span) (room .entry) → Going S room h records work
+      → (h : Hand) → h ≡ firstHand (keys S span) (room .entry) → WalkAt S room h records work
   unfolding run
   begins records work l e c h f = record {
     ran = rw (f, items-none work, l, e) refl;
@@ -56,7 +58,7 @@ module _ (S : Script) (room : Room) (words rooms : ℕ) (B : BeforeWalk S (spanO
     clear = rw f c;
   }
 
-  module _ (h : Hand) (records work : List ℕ) (l : length records ≡ words) (G : Going S room h records work) where
+  module _ (h : Hand) (records work : List ℕ) (l : length records ≡ words) (G : WalkAt S room h records work) where
     ran : walk (machine S span) (seenStore S span) (h .taken) (laid S span words) ≡ unfinished (itemOf h ∷ items work (h .waiting)) (bookOf h records)
     ran = rw l at (G .ran)
 
@@ -74,7 +76,7 @@ module _ (S : Script) (room : Room) (words rooms : ℕ) (B : BeforeWalk S (spanO
     one-more (enters f) = refl
 
     pub goes : (next : Hand) (records′ work′ : List ℕ) → length records′ ≡ words → GoesOn S room (turnOf S room h records work) next records′ work′
-        → Going S room next records′ work′ × (next .taken ≡ h .taken + 1)
+        → WalkAt S room next records′ work′ × (next .taken ≡ h .taken + 1)
     unfolding run
     goes next records′ work′ l′ g =
         let t = took (g .turned) in

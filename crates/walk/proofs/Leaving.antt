@@ -14,10 +14,11 @@ use Rattle.walk.specs.declared.Hand.{Hand}
 use Rattle.opening.specs.declared.Room.{Room}
 use Rattle.walk.specs.declared.Turn.{Turn}
 use Rattle.walk.specs.declared.Turn.the-variants.{Next}
-use Rattle.walk.specs.Units.{jumpsTo, Pushed, fallen, enteredHand, noted, Leaves, Left, Back}
+use Rattle.walk.specs.Leaving.{InstructionLeft, RoomToLeave, noted, BackOrDone, Pushed, jumpsTo}
+use Rattle.walk.specs.Hand.{enteredHand, fallen}
 use Rattle.walk.proofs.Turns.{noted-length, noted-front}
 
-module _ (room : Room) (h : Hand) (edges : Edges) (targets records work : List ℕ) (L : Leaves room h (edges .next) targets records work)
+module _ (room : Room) (h : Hand) (edges : Edges) (targets records work : List ℕ) (L : RoomToLeave room h (edges .next) targets records work)
     {records₁ : List ℕ} (n : records₁ ≡ noted room h records)
     {waiting : ℕ} {work₁ : List ℕ} (P : Pushed targets (edges .jumped) (h .waiting) work waiting work₁)
     {in-hand : Hand} (e : in-hand ≡ enteredHand h (edges .after .operands) waiting) where
@@ -49,15 +50,15 @@ module _ (room : Room) (h : Hand) (edges : Edges) (targets records work : List �
   same-hand = e ∙ ap (λ (k : ℕ). enteredHand h (edges .after .operands) k) (P .count)
 
   pub fell : {next : Hand} → next ≡ fallen (take (room .keys) records₁) in-hand (edges .next) (edges .after) → edges .falls ≡ true
-      → Left room h edges targets records work (Next next) records₁ work₁
+      → InstructionLeft room h edges targets records work (Next next) records₁ work₁
   fell {next} f t = record {
     words = n;
     goes = λ u. (rw (f, same-front, same-hand) refl, P .pushed);
     back = λ u. absurd (zero≢one (cc));
   }
 
-  pub went-back : {r : Turn} {work₂ : List ℕ} → Back (take (room .keys) records₁) in-hand work₁ r work₂ → edges .falls ≡ false
-      → Left room h edges targets records work r records₁ work₂
+  pub went-back : {r : Turn} {work₂ : List ℕ} → BackOrDone (take (room .keys) records₁) in-hand work₁ r work₂ → edges .falls ≡ false
+      → InstructionLeft room h edges targets records work r records₁ work₂
   went-back b t = record {
     words = n;
     goes = λ u. absurd (zero≢one (cc));

@@ -4,5 +4,5 @@ pub mod Moment
 pub mod Parts
 pub mod Turns
 pub mod Leaving
-pub mod Took
+pub mod Taking
 pub mod Chunks

@@ -7,19 +7,17 @@ use native.Mathlib.Omega.{arith}
 use lib.ListN.{length}
 use Rattle.code.specs.Width.{widthOf}
 use Rattle.listing.proofs.Before.{before-few}
-use Rattle.demand.specs.Chunk.{BeforeWalk}
-use Rattle.demand.specs.Span.{E, chunkStarts}
+use Rattle.demand.specs.BeforeWalk.{BeforeWalk}
+use Rattle.demand.specs.Span.{E, chunkStarts, Span}
 use Rattle.rules.specs.Edges.{degree}
 use Rattle.machine.specs.Lists.{here}
 use Rattle.demand.specs.Rule.{machine}
 use Rattle.rules.specs.Script.{Script}
-use Rattle.demand.specs.Span.{Span}
 use Rattle.demand.specs.Span as spans
 use Rattle.machine.specs.Walk.{Book, Log, unfinished, walk, log}
 use Rattle.machine.proofs.Ends.{Bounded}
 use Rattle.demand.proofs.Inside.{inside}
 use Rattle.demand.proofs.Keeps.{keeps-laws}
-use Rattle.machine.proofs.Laws.{InChunk}
 use Rattle.machine.proofs.Once.{item-inside}
 use Rattle.machine.proofs.Sound.{sound-unfinished}
 use Rattle.machine.proofs.Stores.{Tells, same-unfinished, store-bounded, store-roomy}
@@ -29,12 +27,13 @@ use Rattle.words.proofs.Items.{length-items}
 use Rattle.walk.specs.declared.Hand.{Hand}
 use Rattle.opening.specs.declared.Room.{Room}
 use Rattle.walk.specs.Records.{seenStore}
-use Rattle.walk.specs.Units.{itemOf, bookOf, spanOf, Going}
+use Rattle.walk.specs.Turn.{WalkAt, roomSpan}
+use Rattle.walk.specs.Hand.{bookOf, itemOf}
 use Rattle.walk.proofs.Store.{Fit, faithful, laid-fit, laid-empty}
 
-module _ (S : Script) (room : Room) (records work : List ℕ) (B : BeforeWalk S (spanOf room) (length records) (length work)) (h : Hand) (G : Going S room h records work) where
+module _ (S : Script) (room : Room) (records work : List ℕ) (B : BeforeWalk S (roomSpan room) (length records) (length work)) (h : Hand) (G : WalkAt S room h records work) where
   abbrev span : Span
-  span = spanOf room
+  span = roomSpan room
 
   -- what the walk over the log knows of this moment
   over-log : (l : Book Log) × (walk (machine S span) log (h .taken) [] ≡ unfinished (itemOf h ∷ items work (h .waiting)) l) × Tells (machine S span) (seenStore S span) (Fit S span (length records)) (bookOf h records) l

@@ -13,10 +13,9 @@ use Rattle.code.specs.Layout.{among}
 use Rattle.order.specs.Order.{below}
 use Rattle.answer.specs.declared.Depths.{Depths}
 use Rattle.answer.specs.Depths.{Item}
-use Rattle.demand.specs.Span.{T}
+use Rattle.demand.specs.Span.{T, Span}
 use Rattle.demand.specs.Rule.{machine}
 use Rattle.rules.specs.Script.{Script}
-use Rattle.demand.specs.Span.{Span}
 use Rattle.machine.proofs.Stores.{Noting, Faithful}
 use Rattle.words.specs.Seen.{seenAt, noteAt}
 use Rattle.words.proofs.Notes.{length-note, kept-behind, seen-before, seen-behind, seen-noted, none-seen}

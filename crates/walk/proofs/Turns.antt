@@ -12,7 +12,7 @@ use lib.ListN.{length, getD, take}
 use lib.Seq.{getD-take}
 use Rattle.code.specs.Layout.{among}
 use Rattle.code.specs.Width.{widthOf, widthAt}
-use Rattle.listing.specs.Listing.{Start}
+use Rattle.listing.specs.Starts.{Start}
 use Rattle.listing.proofs.Starts.{start-wide}
 use Rattle.order.specs.Order.{Rising, below}
 use Rattle.order.proofs.Laws.{below-mono}
@@ -23,8 +23,7 @@ use Rattle.machine.specs.Machine.{denies, gives, fallTo}
 use Rattle.demand.specs.Rule.{machine, rule, judge}
 use Rattle.rules.specs.Script.{Script, tagOf}
 use Rattle.demand.specs.Span.{Span}
-use Rattle.machine.specs.Walk.{entered, goes-on, stops, firstBad, push, seen}
-use Rattle.machine.specs.Walk as definition
+use Rattle.machine.specs.Walk.{entered, goes-on, stops, firstBadJump, push, seen}
 use Rattle.machine.proofs.Laws.{Passes}
 use Rattle.answer.proofs.Apart.{zero≢one}
 use Rattle.machine.proofs.Turn.{New, is-denied, jumps-badly, enters, refuses, turn-is, seen-named, seen-other}
@@ -35,7 +34,9 @@ use Rattle.walk.specs.declared.Hand.{Hand}
 use Rattle.opening.specs.declared.Room.{Room}
 use Rattle.opening.specs.Records.{named, keys}
 use Rattle.walk.specs.Records.{slotOf, seenStore}
-use Rattle.walk.specs.Units.{itemOf, bookOf, jumpsTo, noted, Leaves, spanOf, turnOf, AtItem, Unseen}
+use Rattle.walk.specs.Turn.{Unseen, AtItem, turnOf, roomSpan}
+use Rattle.walk.specs.Leaving.{RoomToLeave, noted, jumpsTo}
+use Rattle.walk.specs.Hand.{bookOf, itemOf}
 use Rattle.walk.proofs.Moment.{fit, in-chunk, small, roomy}
 use Rattle.walk.proofs.Store.{take-note}
 use Rattle.opening.proofs.Targets.{few-keys, keys-rise, named-key, key-named, key-there, there-key}
@@ -60,7 +61,7 @@ noted-front room h records l = go (ltb (h .slot) (room .keys) && eqb (getD recor
 
 module _ (S : Script) (room : Room) (h : Hand) (marks records work : List ℕ) (A : AtItem S room h marks records work) where
   abbrev span : Span
-  span = spanOf room
+  span = roomSpan room
 
   abbrev ks : List ℕ
   ks = keys S span
@@ -157,7 +158,7 @@ module _ (S : Script) (room : Room) (h : Hand) (marks records work : List ℕ) (
     new : New (machine S span) (seenStore S span) (itemOf h) (bookOf h records)
     new = record { below = U .below-end; unseen = U .unseen }
 
-    pub leaves : length work < 2 ^ 64 → Leaves room h (next S (h .place)) (targets S (h .place)) records work
+    pub leaves : length work < 2 ^ 64 → RoomToLeave room h (next S (h .place)) (targets S (h .place)) records work
     unfolding degree next
     leaves f = record {
       keys-room = keys-room;
@@ -183,12 +184,12 @@ module _ (S : Script) (room : Room) (h : Hand) (marks records work : List ℕ) (
       passes : Passes (machine S span) (itemOf h)
       passes = record { post = _; fall = _; jumps = _; ruled = e }
 
-      pub bad-turn : {a : Answer} → firstBad (judge S span (h .place)) (jumpsTo (jumped S (h .place) (h .depths)) (targets S (h .place))) ≡ some a
+      pub bad-turn : {a : Answer} → firstBadJump (judge S span (h .place)) (jumpsTo (jumped S (h .place) (h .depths)) (targets S (h .place))) ≡ some a
           → turnOf S room h records work ≡ stops a
       unfolding passes
       bad-turn q = turn-is (machine S span) (seenStore S span) (itemOf h) (items work (h .waiting)) (bookOf h records) (refuses (jumps-badly new passes q))
 
-      module _ (good : firstBad (judge S span (h .place)) (jumpsTo (jumped S (h .place) (h .depths)) (targets S (h .place))) ≡ none) where
+      module _ (good : firstBadJump (judge S span (h .place)) (jumpsTo (jumped S (h .place) (h .depths)) (targets S (h .place))) ≡ none) where
         pub entered-turn : turnOf S room h records work
             ≡ goes-on (fallTo (next S (h .place)) (cond (falls (tagOf S (h .place))) (some (after S (h .place) (h .depths))) none)
             (push (jumpsTo (jumped S (h .place) (h .depths)) (targets S (h .place))) (items work (h .waiting))))

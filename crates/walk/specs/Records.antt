@@ -1,15 +1,14 @@
--- What records hold while a chunk is walked: behind the keys, three words for each of them, the depths with which it was seen.
--- Document 01, "Flat pools and sizes": "records, 4 × (1 + T)"; "Order of the tests": "and was seen before".
+-- What records hold while a chunk is walked: behind the keys, three words for each of them, the depths with which it
+-- was seen. Document 01, "Flat pools and sizes": "records, 4 × (1 + T)"; "Order of the tests": "and was seen before".
 use mathlib.Core.Bool.{cond}
 use mathlib.Core.List.{List}
 use Prim.Native.Nat.{ℕ, _+_, _*_}
 use Rattle.code.specs.Layout.{among}
+use Rattle.demand.specs.Span.{T, Span}
+use Rattle.machine.specs.Walk.{Store}
 use Rattle.opening.specs.Records.{keys}
 use Rattle.order.specs.Order.{below}
-use Rattle.demand.specs.Span.{T}
 use Rattle.rules.specs.Script.{Script}
-use Rattle.demand.specs.Span.{Span}
-use Rattle.machine.specs.Walk.{Store}
 use Rattle.words.specs.Seen.{seenAt, noteAt}
 
 module _ (S : Script) (span : Span) where

@@ -3,12 +3,13 @@ ghost use mathlib.Core.Path.{_≡_};
 ghost use Prim.Native.Nat.{_*_, _≤_, _<_};
 ghost use lib.ListN.{length, take};
 ghost use Rattle.order.specs.Order.{Rising};
-ghost use Rattle.walk.specs.Units.{firstHand, Abandoned, Closed};
+ghost use Rattle.walk.specs.Ends.{Closed, Abandoned};
+ghost use Rattle.walk.specs.Hand.{firstHand};
 use crate::Hand;
-use opening::Room;
 use answer::Answer;
 use answer::Depths;
 use answer::Outcome;
+use opening::Room;
 
 // The item that the walk starts with: the entry, with zeros.
 pub fn first_item(room: Room, records: &[u32]) -> Hand
@@ -37,13 +38,15 @@ pub fn first_item(room: Room, records: &[u32]) -> Hand
 pub fn abandon(base: usize, waiting: usize, records: &mut [u32], work: &mut [u32])
     requires { ⌜ base * 4 ≤ length (now records) ⌝ }
     requires { ⌜ waiting * 4 ≤ length (now work) ⌝ }
-    ensures { λ r. ⌜ Abandoned (base * 4) (waiting * 4) (now (records .entry)) (now (work .entry)) (now (records .exit)) (now (work .exit)) ⌝ }
+    ensures { λ r. ⌜ Abandoned (base * 4) (waiting * 4) (now (records .entry)) (now (work .entry))
+        (now (records .exit)) (now (work .exit)) ⌝ }
 {
     order::clear_first(records, base * 4);
     order::clear_first(work, waiting * 4);
 }
 
-// After the last item: clears what the walk used of records, and stores the height where it is not above the declared one, 14.
+// After the last item: clears what the walk used of records, and stores the height where it is not above the declared
+// one, 14.
 pub fn close_chunk(
     base: usize,
     height: u32,

@@ -9,18 +9,19 @@ ghost use Rattle.code.specs.Width.{widthAt};
 ghost use Rattle.order.specs.Order.{Rising, below};
 ghost use Rattle.rules.specs.Edges.{targetsOf};
 ghost use Rattle.rules.specs.There.{SwitchThere};
-ghost use Rattle.words.specs.Seen.{told, seenAt, noteAt};
+ghost use Rattle.words.specs.Seen.{seenTold, seenAt, noteAt};
 ghost use Rattle.words.specs.Stack.{Clear};
-ghost use Rattle.walk.specs.Units.{Pushed, fallen, Back, Leaves, Left};
-ghost use Rattle.rules.specs.Script.{script};
-ghost use Rattle.walk.specs.Units.{droppedHand, enteredHand, AtItem, Unseen, Took};
+ghost use Rattle.walk.specs.Leaving.{InstructionLeft, RoomToLeave, BackOrDone, Pushed};
+ghost use Rattle.walk.specs.Hand.{fallen, enteredHand, droppedHand};
+ghost use Rattle.rules.specs.FromLists.{script};
+ghost use Rattle.walk.specs.Turn.{ItemTaken, Unseen, AtItem};
 use crate::Counts;
 use crate::Hand;
 use crate::Turn;
-use opening::Room;
 use answer::Answer;
 use answer::Depths;
 use answer::Outcome;
+use opening::Room;
 use ruling::Edges;
 use ruling::Ruling;
 use words::seen;
@@ -43,7 +44,7 @@ fn is_key(records: &[u32], keys: usize, slot: usize, place: u32) -> bool
 fn seen_at(records: &[u32], room: Room, slot: usize, place: u32) -> Seen
     requires { ⌜ room .keys ≤ length (now records) ⌝ }
     requires { ⌜ room .base + room .keys * 3 ≤ length (now records) ⌝ }
-    ensures { λ r. ⌜ told r ≡ cond (ltb slot (room .keys) && eqb (getD (now (records .entry)) slot 0) place)
+    ensures { λ r. ⌜ seenTold r ≡ cond (ltb slot (room .keys) && eqb (getD (now (records .entry)) slot 0) place)
         (seenAt (now (records .entry)) (room .base + slot * 3)) none ⌝ }
 {
     if is_key(records, room.keys, slot, place) {
@@ -58,7 +59,8 @@ fn note_at(records: &mut [u32], room: Room, slot: usize, place: u32, d: Depths)
     requires { ⌜ room .keys ≤ length (now records) ⌝ }
     requires { ⌜ room .base + room .keys * 3 ≤ length (now records) ⌝ }
     requires { ⌜ d .operands + 1 < 2 ^ 32 ⌝ }
-    ensures { λ r. ⌜ now (records .exit) ≡ cond (ltb slot (room .keys) && eqb (getD (now (records .entry)) slot 0) place)
+    ensures { λ r. ⌜ now (records .exit) ≡ cond
+        (ltb slot (room .keys) && eqb (getD (now (records .entry)) slot 0) place)
         (noteAt (now (records .entry)) (room .base + slot * 3) d) (now (records .entry)) ⌝ }
 {
     if is_key(records, room.keys, slot, place) {
@@ -66,7 +68,7 @@ fn note_at(records: &mut [u32], room: Room, slot: usize, place: u32, d: Depths)
     }
 }
 
-// Pushes an item for each target of the instruction at an offset, so many of them, in order, and tells how many wait then.
+// Pushes an item for each target of the instruction at an offset, so many of them, and tells how many wait then.
 fn push_jumps(
     code: &[u8],
     at: usize,
@@ -81,8 +83,10 @@ fn push_jumps(
     requires { ⌜ 0 < widthAt (now code) at ⌝ }
     requires { ⌜ SwitchThere (now code) (now switches) (now cases) (now ranges) at ⌝ }
     requires { ⌜ count ≡ length (targetsOf (now code) (now switches) (now cases) (now ranges) at) ⌝ }
-    requires { ⌜ (waiting + length (targetsOf (now code) (now switches) (now cases) (now ranges) at)) * 4 ≤ length (now work) ⌝ }
-    ensures { λ r. ⌜ Pushed (targetsOf (now (code .entry)) (now (switches .entry)) (now (cases .entry)) (now (ranges .entry)) at)
+    requires { ⌜ (waiting + length (targetsOf (now code) (now switches) (now cases) (now ranges) at)) * 4
+        ≤ length (now work) ⌝ }
+    ensures { λ r. ⌜ Pushed
+        (targetsOf (now (code .entry)) (now (switches .entry)) (now (cases .entry)) (now (ranges .entry)) at)
         d waiting (now (work .entry)) r (now (work .exit)) ⌝ }
 {
     let mut k = 0;
@@ -119,7 +123,7 @@ fn take_back(hand: Hand, records: &[u32], keys: usize, work: &mut [u32]) -> Turn
     requires { ⌜ Rising (take keys (now records)) ⌝ }
     requires { ⌜ hand .waiting * 4 ≤ length (now work) ⌝ }
     requires { ⌜ Clear (now work) (hand .waiting) ⌝ }
-    ensures { λ r. ⌜ Back (take keys (now (records .entry))) hand (now (work .entry)) r (now (work .exit)) ⌝ }
+    ensures { λ r. ⌜ BackOrDone (take keys (now (records .entry))) hand (now (work .entry)) r (now (work .exit)) ⌝ }
 {
     if hand.waiting == 0 {
         return Turn::Done(Counts {
@@ -192,8 +196,8 @@ fn enter_item(hand: Hand, post: u32, waiting: usize) -> Hand
     }
 }
 
-// The edges of an instruction whose tests have all passed: its depths are noted, its jumps pushed, so many of them, and the
-// next item is what falls through, or else the one pushed last.
+// The edges of an instruction whose tests have all passed: its depths are noted, its jumps pushed, so many of them, and
+// the next item is what falls through, or else the one pushed last.
 fn leave(
     code: &[u8],
     switches: &[u32],
@@ -209,8 +213,10 @@ fn leave(
     requires { ⌜ 0 < widthAt (now code) (hand .place) ⌝ }
     requires { ⌜ SwitchThere (now code) (now switches) (now cases) (now ranges) (hand .place) ⌝ }
     requires { ⌜ count ≡ length (targetsOf (now code) (now switches) (now cases) (now ranges) (hand .place)) ⌝ }
-    requires { ⌜ Leaves room hand (edges .next) (targetsOf (now code) (now switches) (now cases) (now ranges) (hand .place)) (now records) (now work) ⌝ }
-    ensures { λ r. ⌜ Left room hand edges (targetsOf (now (code .entry)) (now (switches .entry)) (now (cases .entry)) (now (ranges .entry)) (hand .place))
+    requires { ⌜ RoomToLeave room hand (edges .next)
+        (targetsOf (now code) (now switches) (now cases) (now ranges) (hand .place)) (now records) (now work) ⌝ }
+    ensures { λ r. ⌜ InstructionLeft room hand edges
+        (targetsOf (now (code .entry)) (now (switches .entry)) (now (cases .entry)) (now (ranges .entry)) (hand .place))
         (now (records .entry)) (now (work .entry)) r (now (records .exit)) (now (work .exit)) ⌝ }
 {
     let after = edges.after;
@@ -253,13 +259,15 @@ fn enter(
     records: &mut [u32],
     work: &mut [u32],
 ) -> Turn
-    requires { ⌜ AtItem (script rights (now names) (now chains) (now steps) (now switches) (now cases) (now ranges) (now code))
+    requires { ⌜ AtItem
+        (script rights (now names) (now chains) (now steps) (now switches) (now cases) (now ranges) (now code))
         room hand (now marks) (now records) (now work) ⌝ }
-    requires { ⌜ Unseen (script rights (now names) (now chains) (now steps) (now switches) (now cases) (now ranges) (now code))
+    requires { ⌜ Unseen
+        (script rights (now names) (now chains) (now steps) (now switches) (now cases) (now ranges) (now code))
         room hand (now records) ⌝ }
-    ensures { λ r. ⌜ Took
-        (script rights (now (names .entry)) (now (chains .entry)) (now (steps .entry)) (now (switches .entry)) (now (cases .entry))
-        (now (ranges .entry)) (now (code .entry)))
+    ensures { λ r. ⌜ ItemTaken
+        (script rights (now (names .entry)) (now (chains .entry)) (now (steps .entry)) (now (switches .entry))
+        (now (cases .entry)) (now (ranges .entry)) (now (code .entry)))
         room hand (now (records .entry)) (now (work .entry)) r (now (records .exit)) (now (work .exit)) ⌝ }
 {
     let at = hand.place as usize;
@@ -328,11 +336,12 @@ pub fn take_item(
     records: &mut [u32],
     work: &mut [u32],
 ) -> Turn
-    requires { ⌜ AtItem (script rights (now names) (now chains) (now steps) (now switches) (now cases) (now ranges) (now code))
+    requires { ⌜ AtItem
+        (script rights (now names) (now chains) (now steps) (now switches) (now cases) (now ranges) (now code))
         room hand (now marks) (now records) (now work) ⌝ }
-    ensures { λ r. ⌜ Took
-        (script rights (now (names .entry)) (now (chains .entry)) (now (steps .entry)) (now (switches .entry)) (now (cases .entry))
-        (now (ranges .entry)) (now (code .entry)))
+    ensures { λ r. ⌜ ItemTaken
+        (script rights (now (names .entry)) (now (chains .entry)) (now (steps .entry)) (now (switches .entry))
+        (now (cases .entry)) (now (ranges .entry)) (now (code .entry)))
         room hand (now (records .entry)) (now (work .entry)) r (now (records .exit)) (now (work .exit)) ⌝ }
 {
     if room.end <= hand.place {

@@ -1,14 +1,14 @@
 // One item of a chunk's walk taken, and the two ends of the walk.
-// Taking an item is one turn of the definition of the walk, and every word of records and work is fixed by its contract.
-// Left to `verify`: the loops over items and chunks, and the memory at the end of the call.
+// Taking an item is one turn of the definition of the walk, and its contract fixes every word of records and work.
+// Left to `judging`: the loops over items and chunks.
 pub mod chunk;
 pub mod item;
 
 use answer::Answer;
 use answer::Depths;
 
-// The item in hand, and what one item hands to the next: its place and the depths there; how many keys are below the place;
-// how many items wait in work; the instructions entered, the items taken, and the largest number of operands.
+// The item in hand, and what one item hands to the next: its place and the depths there; how many keys are below the
+// place; how many items wait in work; the instructions entered, the items taken, and the largest number of operands.
 pub struct Hand {
     pub place: u32,
     pub depths: Depths,

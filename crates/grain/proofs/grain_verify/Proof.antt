@@ -67,16 +67,18 @@ use denote.Triple.Table.{entered, cited}
 use denote.Triple.Walked.{says, Stays, stay-none, stay-none-slice, stay-slice, walkOf, goes-none, goes-none-slice}
 use denote.Triple.Walked.{goes-slice, Walks, ends-at, walked, walk-meets}
 use denote.Exit.{yes}
-use Rattle.before.specs.Input.{Input, input}
+use Rattle.before.specs.Input.{Input}
+use Rattle.before.specs.Parameters.{input}
 use Rattle.answer.specs.declared.verdict.Verdict.{Verdict}
 use Rattle.demand.specs.Span.{Span}
-use Rattle.rules.specs.Script.{Script, script}
+use Rattle.rules.specs.FromLists.{script}
+use Rattle.rules.specs.Script.{Script}
 use Rattle.answer.proofs.verdict.Verdict as D
 use Rattle.answer.proofs.verdict.Verdict.Laws as D′
 use Rattle.verify.specs.declared.stages.State.{State}
 use Rattle.verify.specs.Call.{Calls as CallsSo}
 use Rattle.verify.specs.Call as lent
-use Rattle.verify.specs.Stages.{Begins, Asks, Takes, goesOn, finished}
+use Rattle.verify.specs.Stages.{Begins, ReadyForChunk, Takes, goesOn, finished}
 use Rattle.verify.proofs.Between.{Stands, stands-first, stands-asks, stands-next, stands-done, goes-below}
 use Rattle.verify.proofs.stages.State as S
 use Rattle.verify.proofs.stages.State.Laws as S′
@@ -96,7 +98,7 @@ use Rattle.verify.proofs.stages.finish as finish
 use Rattle.verify.proofs.stages.finish.Symbol as finish-def
 use Rattle.verify.proofs.stages.finish.Symbol.{name as #finish}
 use Rattle.verify.proofs.stages.finish.Met as finish-thm
-use Rattle.grain.specs.Chunks.{spanOf, spansFrom}
+use Rattle.grain.specs.Chunks.{chunkSpan, spansFrom}
 use Rattle.grain.specs.declared.Chunk.{Chunk}
 use Rattle.grain.proofs.Chunk as T
 use Rattle.grain.proofs.Chunk.Laws as T′
@@ -551,7 +553,8 @@ module _ {M : Type 1} (𝓤 : URA M) (H : Heap 𝓤) (A : Atoms 𝓤) (W : Given
 
   abbrev Asked : Moment → Type 0
   Asked m =
-      Asks the-script (m .number) (m .state) (m .held .marks) (m .held .heights) (m .held .records) (m .held .work)
+      ReadyForChunk the-script (m .number) (m .state) (m .held .marks) (m .held .heights) (m .held .records)
+      (m .held .work)
 
   asks-take : (m : Moment) (c : Chunk) (ν1 ν2 ν3 ν4 : ℕ) (δ1 δ2 δ3 δ4 : GName)
       → Is S.the-row (m .state) (mach (m .state) ∷ [])
@@ -574,7 +577,7 @@ module _ {M : Type 1} (𝓤 : URA M) (H : Heap 𝓤) (A : Atoms 𝓤) (W : Given
 
   abbrev Taken : Moment → Chunk → State → Lists 4 → Type 0
   Taken m c z ws =
-      Takes the-script (length (m .held .records)) (length (m .held .work)) (spanOf c) (m .number) (m .state)
+      Takes the-script (length (m .held .records)) (length (m .held .work)) (chunkSpan c) (m .number) (m .state)
       (m .held .marks) (m .held .heights) z (ws .0) (ws .1 .0) (ws .1 .1 .0) (ws .1 .1 .1 .0)
 
   abbrev take-gave : Moment → Chunk → (ν1 ν2 ν3 ν4 : ℕ) (δ1 δ2 δ3 δ4 : GName) → Val → Item 𝓤

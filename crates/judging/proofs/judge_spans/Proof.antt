@@ -8,23 +8,29 @@ use borrow.Author.Needs.{needs}
 use denote.Ref.{now}
 use lib.ListN.{length, getD, length-replicate}
 use Rattle.opening.specs.declared.Room.{Room}
-use Rattle.opening.specs.Opens.{Opens, Readies}
+use Rattle.opening.specs.Opens.{OpenedAs, Readies}
 use Rattle.opening.specs.Ready.{Ready, Marked}
 use Rattle.pools.specs.Sizes.{maxChunks}
 use Rattle.pools.proofs.Most.{code-small, room-small}
-use Rattle.demand.specs.Chunk.{judgeChunk, redeclared}
-use Rattle.rules.specs.Script.{Script, script}
+use Rattle.demand.specs.Chunk.{judgeChunk}
+use Rattle.demand.specs.BeforeWalk.{redeclared}
+use Rattle.rules.specs.Script.{Script}
+use Rattle.rules.specs.FromLists.{script}
 use Rattle.demand.specs.Span.{Span}
 use Rattle.answer.specs.declared.Answer.{Answer}
 use Rattle.demand.proofs.Demand.{fails-by, passes-to, judged-shut}
 use Rattle.walk.specs.declared.Counts.{Counts}
 use Rattle.walk.specs.declared.Hand.{Hand}
 use Rattle.walk.specs.declared.Turn.the-variants.{Next, Done, Refused}
-use Rattle.walk.specs.Units.{spanOf, turnOf, GoesOn, Ends, Stops}
+use Rattle.walk.specs.Turn.{Stops, Ends, GoesOn, turnOf, roomSpan}
 use Rattle.judging.specs.Spans.{spansOf}
-use Rattle.judging.proofs.Chain.{span-count, span-there, span-within, Judging, judging-first, judging-done, judging-fails, judging-passes}
-use Rattle.judging.proofs.Walking.{few-edges, Walking, opens-refused, opens-ready, took-next, took-done, took-refused, opened-rises, opened-keys, first-walking-here, judged-here}
-use Rattle.judging.proofs.Walking.{records-long as opened-records, work-long as opened-work, lent, walking-on, few-taken, used-room, waits-within, stopped-zero, stopped-judged, ended-judged, ended-few, ended-records, ended-work, closed-well, closed-above}
+use Rattle.judging.proofs.Chain.{span-count, span-there, span-within, Judging, judging-first, judging-done}
+use Rattle.judging.proofs.Chain.{judging-fails, judging-passes}
+use Rattle.judging.proofs.Walking.{few-edges, Walking, opens-refused, opens-ready, took-next, took-done}
+use Rattle.judging.proofs.Walking.{took-refused, opened-rises, opened-keys, first-walking-here, judged-here}
+use Rattle.judging.proofs.Walking.{records-long as opened-records, work-long as opened-work, lent, walking-on}
+use Rattle.judging.proofs.Walking.{few-taken, used-room, waits-within, stopped-zero, stopped-judged}
+use Rattle.judging.proofs.Walking.{ended-judged, ended-few, ended-records, ended-work, closed-well, closed-above}
 use Rattle.judging.proofs.judge_spans.Statement.{statement}
 use Rattle.judging.proofs.judge_spans.Tie as tie
 
@@ -94,7 +100,7 @@ module _ (q : tie.Else1 Inv-items μ-items Inv-call μ-call) where
 
 -- it was opened
 module _ (o : tie.After-open-span Inv-items μ-items Inv-call μ-call) where
-  opens : (declared : ℕ) → Opens (S (o .before .before .before .before .before .before)) (this (o .before .before .before .before .before .before) declared) (words (o .before .before .before .before .before .before)) (rooms (o .before .before .before .before .before .before)) (o .open-span .result) (o .open-span .last .1 .1 .1 .1 .1 .1 .1 .0) (o .open-span .last .1 .1 .1 .1 .1 .1 .1 .1 .0)
+  opens : (declared : ℕ) → OpenedAs (S (o .before .before .before .before .before .before)) (this (o .before .before .before .before .before .before) declared) (words (o .before .before .before .before .before .before)) (rooms (o .before .before .before .before .before .before)) (o .open-span .result) (o .open-span .last .1 .1 .1 .1 .1 .1 .1 .0) (o .open-span .last .1 .1 .1 .1 .1 .1 .1 .1 .0)
   opens declared = rw (records-long (o .before .before .before .before .before .before), work-long (o .before .before .before .before .before .before)) at (o .open-span .ensures (o .before .before .before .before .before .before .before .before .before .before .before .before .before .before .before .before .before .before .before .before .before .before .args .rights) (now (o .before .before .before .before .before .before .before .before .before .before .before .before .before .before .before .before .before .before .before .before .before .before .args .names)) (now (o .before .before .before .before .before .before .before .before .before .before .before .before .before .before .before .before .before .before .before .before .before .before .args .chains)) (now (o .before .before .before .before .before .before .before .before .before .before .before .before .before .before .before .before .before .before .before .before .before .before .args .steps)) declared)
 
 module _ (q : tie.After-opened2 Inv-items μ-items Inv-call μ-call) where
@@ -105,7 +111,7 @@ module _ (q : tie.After-opened2 Inv-items μ-items Inv-call μ-call) where
   opened = opens-ready _ _ _ _ _ _ _ (opens (q .before .before .before .before .before .before) 0) (q .opened2 .given .1)
 
   -- what a judgement of it is a judgement of
-  judged : (declared : ℕ) → judgeChunk (S (q .before .before .before .before .before .before .before .before .before .before .before .before)) (redeclared (spanOf room) declared) (words (q .before .before .before .before .before .before .before .before .before .before .before .before)) (rooms (q .before .before .before .before .before .before .before .before .before .before .before .before)) ≡ judgeChunk (S (q .before .before .before .before .before .before .before .before .before .before .before .before)) (this (q .before .before .before .before .before .before .before .before .before .before .before .before) declared) (words (q .before .before .before .before .before .before .before .before .before .before .before .before)) (rooms (q .before .before .before .before .before .before .before .before .before .before .before .before))
+  judged : (declared : ℕ) → judgeChunk (S (q .before .before .before .before .before .before .before .before .before .before .before .before)) (redeclared (roomSpan room) declared) (words (q .before .before .before .before .before .before .before .before .before .before .before .before)) (rooms (q .before .before .before .before .before .before .before .before .before .before .before .before)) ≡ judgeChunk (S (q .before .before .before .before .before .before .before .before .before .before .before .before)) (this (q .before .before .before .before .before .before .before .before .before .before .before .before) declared) (words (q .before .before .before .before .before .before .before .before .before .before .before .before)) (rooms (q .before .before .before .before .before .before .before .before .before .before .before .before))
   judged declared = judged-here _ (ready (q .before .before .before .before .before .before .before .before .before .before .before .before)) _ (marked (q .before .before .before .before .before .before .before .before .before .before .before .before)) _ _ opened declared
 
 -- an item is in hand

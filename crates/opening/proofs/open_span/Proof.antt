@@ -7,7 +7,7 @@ use denote.Ref.{now}
 use Rattle.demand.specs.Chunk.{spanTest}
 use Rattle.rules.specs.Script.{Script}
 use Rattle.demand.specs.Span.{Span}
-use Rattle.rules.specs.Script.{script}
+use Rattle.rules.specs.FromLists.{script}
 use Rattle.opening.specs.Ready.{spanOf}
 use Rattle.opening.proofs.Tests.{tells-refusal, tells-none, span-passed}
 use Rattle.opening.proofs.Ways.{refused-by-span, refused-for-room, stored-fit, spare-fits, zeros-behind, ready}

@@ -7,7 +7,7 @@ use borrow.Author.Needs.{needs}
 use lib.ListN.{length}
 use Rattle.rules.specs.Edges.{targetsOf}
 use Rattle.answer.specs.Answer.{told}
-use Rattle.rules.specs.Script.{script}
+use Rattle.rules.specs.FromLists.{script}
 use Rattle.ruling.proofs.Jumps.{Good, none-yet, one-more, refused, all-good}
 use Rattle.ruling.proofs.check_jumps.Statement.{statement}
 use Rattle.ruling.proofs.check_jumps.Tie as tie

@@ -5,7 +5,8 @@ use native.Mathlib.Omega.{arith}
 use borrow.Author.Needs.{needs}
 use lib.ListN.{length, getD}
 use Rattle.pools.specs.Pools.{switchAt}
-use Rattle.rules.proofs.Targets.{Leads, switch-index, switch-named, plain-count, jump-count, switch-count, end-count}
+use Rattle.rules.proofs.Targets.{Leads, switch-index, switch-named, plain-count, jump-count, switch-count}
+use Rattle.rules.proofs.Targets.{end-count}
 use Rattle.rules.proofs.edges.target_count.Statement.{statement}
 use Rattle.rules.proofs.edges.target_count.Tie as tie
 

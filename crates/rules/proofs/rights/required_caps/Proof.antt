@@ -6,7 +6,8 @@ use borrow.Author.Needs.{needs}
 use Rattle.pools.specs.Pools.{chainAt}
 use Rattle.rules.specs.Rights.{ofName, ofChain}
 use Rattle.rules.specs.There.{ChainWhole}
-use Rattle.rules.proofs.Joined.{Asked, word-rights, index-decided, named-there, name-rights, chained-there, chain-rights}
+use Rattle.rules.proofs.Joined.{Asked, word-rights, index-decided, named-there, name-rights, chained-there}
+use Rattle.rules.proofs.Joined.{chain-rights}
 use Rattle.rules.proofs.rights.required_caps.Statement.{statement}
 use Rattle.rules.proofs.rights.required_caps.Tie as tie
 

@@ -8,14 +8,15 @@ use Rattle.rules.specs.Edges.{targets, targetsOf, next}
 use Rattle.rules.specs.Script.{Script}
 use Rattle.ruling.specs.declared.Edges.{Edges}
 use Rattle.ruling.specs.declared.Ruling.the-variants.{Gives}
-use Rattle.rules.specs.Script.{script}
+use Rattle.rules.specs.FromLists.{script}
 use Rattle.ruling.specs.Ruling.{edgesOf, ruled}
 use Rattle.walk.specs.declared.Hand.{Hand}
 use Rattle.answer.specs.Answer.{told}
 use Rattle.rules.proofs.Targets.{switch-entry-of}
 use Rattle.ruling.proofs.Laws.{denied, given-edges, given-rule}
-use Rattle.walk.specs.Units.{Leaves, spanOf}
-use Rattle.walk.proofs.Took.{stopped, left-took}
+use Rattle.walk.specs.Turn.{roomSpan}
+use Rattle.walk.specs.Leaving.{RoomToLeave}
+use Rattle.walk.proofs.Taking.{stopped, left-took}
 use Rattle.walk.proofs.Turns.{start, wide, fitting, leaves, denied-turn, bad-turn}
 use Rattle.walk.proofs.item.enter.Statement.{statement}
 use Rattle.walk.proofs.item.enter.Tie as tie
@@ -35,17 +36,17 @@ module _ (p : tie.After-ruling2) where
   abbrev h : Hand
   h = opening (p .before .before .before .before) .args .hand
 
-  gives : ruled S (spanOf (opening (p .before .before .before .before) .args .room)) (h .place) (h .depths) ≡ Gives (p .ruling2 .given .0 .0)
+  gives : ruled S (roomSpan (opening (p .before .before .before .before) .args .room)) (h .place) (h .depths) ≡ Gives (p .ruling2 .given .0 .0)
   gives = sym (p .before .before .rule-of .ensures _ _ _ _ _) ∙ p .ruling2 .given .1
 
   these : p .ruling2 .given .0 .0 ≡ edgesOf S (h .place) (h .depths)
   these = given-edges _ _ _ _ gives
 
-  leaving : Leaves (opening (p .before .before .before .before) .args .room) h (next S (h .place)) (targets S (h .place)) (now (opening (p .before .before .before .before) .args .records)) (now (opening (p .before .before .before .before) .args .work))
+  leaving : RoomToLeave (opening (p .before .before .before .before) .args .room) h (next S (h .place)) (targets S (h .place)) (now (opening (p .before .before .before .before) .args .records)) (now (opening (p .before .before .before .before) .args .work))
   leaving = leaves _ _ _ _ _ _ (opening (p .before .before .before .before) .pre .0) (opening (p .before .before .before .before) .pre .1) (omega (arith, opening (p .before .before .before .before) .good .1 .1 .1 .1 .1 .1 .1 .1 .1 .1 .1 .1 .0))
 
-  room-left : Leaves (opening (p .before .before .before .before) .args .room) h (p .ruling2 .given .0 .0 .next) (targets S (h .place)) (now (opening (p .before .before .before .before) .args .records)) (now (opening (p .before .before .before .before) .args .work))
-  room-left = subst (λ (e : Edges). Leaves (opening (p .before .before .before .before) .args .room) h (e .next) (targets S (h .place)) (now (opening (p .before .before .before .before) .args .records)) (now (opening (p .before .before .before .before) .args .work))) (sym these) leaving
+  room-left : RoomToLeave (opening (p .before .before .before .before) .args .room) h (p .ruling2 .given .0 .0 .next) (targets S (h .place)) (now (opening (p .before .before .before .before) .args .records)) (now (opening (p .before .before .before .before) .args .work))
+  room-left = subst (λ (e : Edges). RoomToLeave (opening (p .before .before .before .before) .args .room) h (e .next) (targets S (h .place)) (now (opening (p .before .before .before .before) .args .records)) (now (opening (p .before .before .before .before) .args .work))) (sym these) leaving
 
 cast-at : tie.Need-cast-at
 cast-at c = search needs

@@ -8,12 +8,12 @@ use Prim.Native.Nat.{_^_, _<_}
 use Rattle.demand.specs.Rule.{machine}
 use Rattle.rules.specs.Script.{Script}
 use Rattle.machine.specs.Walk.{seen}
-use Rattle.rules.specs.Script.{script}
-use Rattle.words.specs.Seen.{told}
+use Rattle.rules.specs.FromLists.{script}
+use Rattle.words.specs.Seen.{seenTold}
 use Rattle.walk.specs.declared.Hand.{Hand}
 use Rattle.walk.specs.Records.{seenStore}
-use Rattle.walk.specs.Units.{spanOf, AtItem}
-use Rattle.walk.proofs.Took.{stopped, off-turn, dropped-took, clash-turn}
+use Rattle.walk.specs.Turn.{AtItem, roomSpan}
+use Rattle.walk.proofs.Taking.{stopped, off-turn, dropped-took, clash-turn}
 use Rattle.walk.proofs.Turns.{rises, keys-room, notes-room, waits-room, taken-fits, seen-so}
 use Rattle.walk.proofs.item.take_item.Statement.{statement}
 use Rattle.walk.proofs.item.take_item.Tie as tie
@@ -39,7 +39,7 @@ module _ (p : tie.Else1) where
 
 -- what was seen at the place in hand
 module _ (p : tie.After-seen-at) where
-  was-seen : told (p .seen-at .result) ≡ seen (machine (S (p .before .before)) (spanOf (p .before .before .before .before .before .before .before .before .before .before .before .before .before .before .before .args .room))) (seenStore (S (p .before .before)) (spanOf (p .before .before .before .before .before .before .before .before .before .before .before .before .before .before .before .args .room))) (h (p .before .before) .place) (now (p .before .before .before .before .before .before .before .before .before .before .before .before .before .before .before .args .records))
+  was-seen : seenTold (p .seen-at .result) ≡ seen (machine (S (p .before .before)) (roomSpan (p .before .before .before .before .before .before .before .before .before .before .before .before .before .before .before .args .room))) (seenStore (S (p .before .before)) (roomSpan (p .before .before .before .before .before .before .before .before .before .before .before .before .before .before .before .args .room))) (h (p .before .before) .place) (now (p .before .before .before .before .before .before .before .before .before .before .before .before .before .before .before .args .records))
   was-seen = p .seen-at .ensures ∙ seen-so _ _ _ _ _ _ (A (p .before .before))
 
 returns : tie.Need-returns
@@ -52,9 +52,9 @@ enum-told : tie.Need-enum-told
 enum-told c = search needs
 
 enter-requires : tie.Need-enter-requires
-unfolding told
+unfolding seenTold
 enter-requires c κs =
-    (A (c .before .before .before .before .before .before), record { below-end = here (c .before .before .before .before .before .before); unseen = sym (was-seen (c .before .before .before .before)) ∙ ap told (c .before .before .enum-told .given .1) })
+    (A (c .before .before .before .before .before .before), record { below-end = here (c .before .before .before .before .before .before); unseen = sym (was-seen (c .before .before .before .before)) ∙ ap seenTold (c .before .before .enum-told .given .1) })
 
 enum-known-seen : tie.Need-enum-known-seen
 enum-known-seen c = search needs
@@ -77,10 +77,10 @@ same-length-2 : tie.Need-same-length-2
 same-length-2 c = search needs
 
 returns-2 : tie.Need-returns-2
-unfolding told
+unfolding seenTold
 returns-2 c =
     let e = c .before .before .before .before .before .before .before .before .before .before .before .before .before .before in
-    dropped-took _ _ _ _ _ _ (A e) (here e) _ (sym (was-seen (c .before .before .before .before .before .before .before .before .before .before .before .before)) ∙ ap told (c .before .before .before .before .before .before .before .before .before .before .seen .given .1)) (sym (c .before .before .before .before .before .before .before .agree .ensures) ∙ c .before .before .before .before .before .before .if2 .taken) (c .before .before .before .before .before .drop-item .ensures)
+    dropped-took _ _ _ _ _ _ (A e) (here e) _ (sym (was-seen (c .before .before .before .before .before .before .before .before .before .before .before .before)) ∙ ap seenTold (c .before .before .before .before .before .before .before .before .before .before .seen .given .1)) (sym (c .before .before .before .before .before .before .before .agree .ensures) ∙ c .before .before .before .before .before .before .if2 .taken) (c .before .before .before .before .before .drop-item .ensures)
     (c .before .before .take-back .result) (c .before .before .take-back .last .1 .1 .1 .0) (c .before .before .take-back .ensures)
 
 cast-t32 : tie.Need-cast-t32
@@ -99,11 +99,11 @@ same-length-5 : tie.Need-same-length-5
 same-length-5 c = search needs
 
 returns-4 : tie.Need-returns-4
-unfolding told
+unfolding seenTold
 returns-4 c =
     let e = c .before .before .before .before .before .before .before .before .before in
     stopped _ _ (h e) _ _
-    (clash-turn _ _ _ _ _ _ (A e) (here e) _ (sym (was-seen (c .before .before .before .before .before .before .before)) ∙ ap told (c .before .before .before .before .before .seen .given .1)) (sym (c .before .before .agree .ensures) ∙ c .before .if2 .left))
+    (clash-turn _ _ _ _ _ _ (A e) (here e) _ (sym (was-seen (c .before .before .before .before .before .before .before)) ∙ ap seenTold (c .before .before .before .before .before .seen .given .1)) (sym (c .before .before .agree .ensures) ∙ c .before .if2 .left))
 
 pub take-item-spec : {M : Type 1} → statement M
 take-item-spec =

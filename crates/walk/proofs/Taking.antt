@@ -14,7 +14,7 @@ use Rattle.rules.specs.Edges.{falls, targets, after, jumped, next}
 use Rattle.machine.specs.Machine.{gives, fallTo}
 use Rattle.demand.specs.Rule.{machine, rule, judge}
 use Rattle.rules.specs.Script.{Script, tagOf}
-use Rattle.machine.specs.Walk.{goes-on, stops, firstBad, push, seen}
+use Rattle.machine.specs.Walk.{goes-on, stops, firstBadJump, push, seen}
 use Rattle.machine.specs.Walk as definition
 use Rattle.machine.proofs.Agree.{agree-true, agree-refl}
 use Rattle.answer.proofs.Apart.{zero≢one}
@@ -29,14 +29,16 @@ use Rattle.walk.specs.declared.Turn.{Turn}
 use Rattle.walk.specs.declared.Turn.the-variants.{Next, Done, Refused}
 use Rattle.opening.specs.Records.{keys}
 use Rattle.walk.specs.Records.{seenStore}
-use Rattle.walk.specs.Units.{itemOf, bookOf, jumpsTo, droppedHand, enteredHand, Leaves, Left, Back, spanOf, turnOf, AtItem, Unseen, Comes, Took}
+use Rattle.walk.specs.Turn.{ItemTaken, SameTurn, Unseen, AtItem, turnOf, roomSpan}
+use Rattle.walk.specs.Leaving.{InstructionLeft, RoomToLeave, BackOrDone, jumpsTo}
+use Rattle.walk.specs.Hand.{enteredHand, droppedHand, bookOf, itemOf}
 use Rattle.walk.proofs.Turns.{front, noted-so, entered-turn}
 
 module _ (S : Script) (room : Room) where
   -- a turn that goes on with what waits, where the item pushed last was then taken back
   pub back-comes : {t : definition.Turn Answer (List ℕ)} (records work : List ℕ) {records₁ : List ℕ} (work₁ : List ℕ) (work₂ : List ℕ) (in-hand : Hand) (r : Turn)
       → t ≡ goes-on (items work₁ (in-hand .waiting)) (bookOf in-hand records₁) → Clear work₁ (in-hand .waiting)
-      → Back (keys S (spanOf room)) in-hand work₁ r work₂ → Comes S room t records work r records₁ work₂
+      → BackOrDone (keys S (roomSpan room)) in-hand work₁ r work₂ → SameTurn S room t records work r records₁ work₂
   back-comes records work work₁ work₂ in-hand (Next following) e c b = record {
     turned = e ∙ rw (b .waits, b .reached, b .taken, b .height) refl;
     slot = b .slot;
@@ -48,39 +50,39 @@ module _ (S : Script) (room : Room) where
   }
   back-comes records work work₁ work₂ in-hand (Refused a) e c b = absurd b
 
-  pub stopped : (h : Hand) (records work : List ℕ) {a : Answer} → turnOf S room h records work ≡ stops a → Took S room h records work (Refused a) records work
+  pub stopped : (h : Hand) (records work : List ℕ) {a : Answer} → turnOf S room h records work ≡ stops a → ItemTaken S room h records work (Refused a) records work
   stopped h records work e = record { turned = e; same-records = refl; same-work = refl }
 
 module _ (S : Script) (room : Room) (h : Hand) (marks records work : List ℕ) (A : AtItem S room h marks records work) where
   -- ---- at the end, and at a place seen before
 
   pub off-turn : room .end ≤ h .place → turnOf S room h records work ≡ stops FallsOffTheEnd
-  off-turn l = turn-is (machine S (spanOf room)) (seenStore S (spanOf room)) (itemOf h) (items work (h .waiting)) (bookOf h records) (refuses (is-off l))
+  off-turn l = turn-is (machine S (roomSpan room)) (seenStore S (roomSpan room)) (itemOf h) (items work (h .waiting)) (bookOf h records) (refuses (is-off l))
 
-  module _ (below-end : h .place < room .end) (d : Depths) (s : seen (machine S (spanOf room)) (seenStore S (spanOf room)) (h .place) records ≡ some d) where
+  module _ (below-end : h .place < room .end) (d : Depths) (s : seen (machine S (roomSpan room)) (seenStore S (roomSpan room)) (h .place) records ≡ some d) where
     dropped-turn : agree d (h .depths) ≡ true → turnOf S room h records work ≡ goes-on (items work (h .waiting)) (bookOf (droppedHand h) records)
     dropped-turn e =
-        turn-is (machine S (spanOf room)) (seenStore S (spanOf room)) (itemOf h) (items work (h .waiting)) (bookOf h records)
+        turn-is (machine S (roomSpan room)) (seenStore S (roomSpan room)) (itemOf h) (items work (h .waiting)) (bookOf h records)
         (again (record { below = below-end; found = rw (agree-true d (h .depths) e) at s }))
 
     pub dropped-took : agree d (h .depths) ≡ true → {in-hand : Hand} → in-hand ≡ droppedHand h → (r : Turn) (work′ : List ℕ)
-        → Back (take (room .keys) records) in-hand work r work′ → Took S room h records work r records work′
+        → BackOrDone (take (room .keys) records) in-hand work r work′ → ItemTaken S room h records work r records work′
     dropped-took e {in-hand} same r work′ b =
         back-comes S room records work work work′ in-hand r (dropped-turn e ∙ rw same refl) (rw same (A .going .clear))
         (rw (front S room h marks records work A) at b)
 
     pub clash-turn : agree d (h .depths) ≡ false → turnOf S room h records work ≡ stops (DepthConflict (h .place) d (h .depths))
     clash-turn e =
-        turn-is (machine S (spanOf room)) (seenStore S (spanOf room)) (itemOf h) (items work (h .waiting)) (bookOf h records)
+        turn-is (machine S (roomSpan room)) (seenStore S (roomSpan room)) (itemOf h) (items work (h .waiting)) (bookOf h records)
         (refuses (clashes below-end s (λ same. zero≢one (cc (agree-refl d)))))
 
   -- ---- at a new place
 
   module _ (U : Unseen S room h records)
-      (e : rule S (spanOf room) (h .place) (h .depths)
+      (e : rule S (roomSpan room) (h .place) (h .depths)
       ≡ gives (after S (h .place) (h .depths) .operands) (cond (falls (tagOf S (h .place))) (some (after S (h .place) (h .depths))) none)
       (jumpsTo (jumped S (h .place) (h .depths)) (targets S (h .place))))
-      (good : firstBad (judge S (spanOf room) (h .place)) (jumpsTo (jumped S (h .place) (h .depths)) (targets S (h .place))) ≡ none) where
+      (good : firstBadJump (judge S (roomSpan room) (h .place)) (jumpsTo (jumped S (h .place) (h .depths)) (targets S (h .place))) ≡ none) where
     js : List Item
     js = jumpsTo (jumped S (h .place) (h .depths)) (targets S (h .place))
 
@@ -91,7 +93,7 @@ module _ (S : Script) (room : Room) (h : Hand) (marks records work : List ℕ) (
     in-hand : Hand
     in-hand = enteredHand h (after S (h .place) (h .depths) .operands) (h .waiting + length (targets S (h .place)))
 
-    module _ (L : Leaves room h (next S (h .place)) (targets S (h .place)) records work) where
+    module _ (L : RoomToLeave room h (next S (h .place)) (targets S (h .place)) records work) where
       pushed : items (putAll work (h .waiting) js) (h .waiting + length (targets S (h .place))) ≡ push js (items work (h .waiting))
       pushed = rw (← count) (items-putAll js work (h .waiting) (omega (arith, count, L .jumps-room)))
 
@@ -99,25 +101,25 @@ module _ (S : Script) (room : Room) (h : Hand) (marks records work : List ℕ) (
       nothing-above = rw (← count) (clear-putAll js work (h .waiting) (L .clear))
 
       pub left-took : {edges : Edges} {r : Turn} {records′ work′ : List ℕ} → edges ≡ edgesOf S (h .place) (h .depths)
-          → Left room h edges (targets S (h .place)) records work r records′ work′
-          → Took S room h records work r records′ work′
+          → InstructionLeft room h edges (targets S (h .place)) records work r records′ work′
+          → ItemTaken S room h records work r records′ work′
       unfolding js in-hand fallTo
       left-took {edges} {r} {records′} {work′} these given = go (falls (tagOf S (h .place))) refl
         where
-          l : Left room h (edgesOf S (h .place) (h .depths)) (targets S (h .place)) records work r records′ work′
+          l : InstructionLeft room h (edgesOf S (h .place) (h .depths)) (targets S (h .place)) records work r records′ work′
           l = rw these at given
 
-          same : records′ ≡ seenStore S (spanOf room) .note (itemOf h) records
+          same : records′ ≡ seenStore S (roomSpan room) .note (itemOf h) records
           same = l .words ∙ noted-so S room h marks records work A
 
           turned : (b : Bool) → falls (tagOf S (h .place)) ≡ b → turnOf S room h records work
               ≡ goes-on (fallTo (next S (h .place)) (cond b (some (after S (h .place) (h .depths))) none) (push js (items work (h .waiting)))) (bookOf in-hand records′)
           turned b q = rw (same, ← q) (entered-turn S room h marks records work A U e good)
 
-          go : (b : Bool) → falls (tagOf S (h .place)) ≡ b → Took S room h records work r records′ work′
+          go : (b : Bool) → falls (tagOf S (h .place)) ≡ b → ItemTaken S room h records work r records′ work′
           go true q =
               let g = l .goes q in
-              subst (λ (t : Turn). Took S room h records work t records′ work′) (sym (g .0))
+              subst (λ (t : Turn). ItemTaken S room h records work t records′ work′) (sym (g .0))
               (record {
                 turned = turned true q ∙ rw (g .1, pushed) refl;
                 slot = rw (front S room h marks records work A) refl;
