@@ -21,7 +21,6 @@ use Rattle.answer.specs.Depths.{Item}
 use Rattle.rules.specs.Edges.{after, edges, falls, plain, targets, next}
 use Rattle.machine.specs.Lists.{_∈_}
 use Rattle.machine.specs.Machine.{Ruling, denies, gives, fallTo}
-use Rattle.demand.specs.Writing as paths
 use Rattle.rules.specs.Needs.{Able}
 use Rattle.demand.specs.Refusals as refusals
 use Rattle.demand.specs.Refusals.{Met, lacks, operandsNeeded, Real, lacks-rights, leaves, splits, disagrees}
@@ -98,17 +97,17 @@ module _ (S : Script) (span : Span) where
   -- ---- paths
 
   -- a path of the machine is a path of the chunk
-  pub path-of : {it : Item} → Reached (machine S span) it → paths.Path S span it
+  pub path-of : {it : Item} → Reached (machine S span) it → writing.Path S span it
   unfolding leads
-  path-of (begins e) = rw e paths.enters
+  path-of (begins e) = rw e writing.enters
   path-of (follows {it} {e} r c m) = go (path-of r) (rule S span (it .place) (it .depths)) refl m
     where
-      go : paths.Path S span it → (o : Ruling Answer) → rule S span (it .place) (it .depths) ≡ o → e ∈ leads (next S (it .place)) o
-          → paths.Path S span e
+      go : writing.Path S span it → (o : Ruling Answer) → rule S span (it .place) (it .depths) ≡ o → e ∈ leads (next S (it .place)) o
+          → writing.Path S span e
       go back (denies x) q k = absurd (∉-nil k)
       go back (gives post fall jumps) q k =
           let a = agrees it (record { post = post; fall = fall; jumps = jumps; ruled = q }) in
-          paths.follows back (inside S span c) (a .able) (a .edges e .0 m)
+          writing.follows back (inside S span c) (a .able) (a .edges e .0 m)
 
   -- ---- writings
 
@@ -119,9 +118,9 @@ module _ (S : Script) (span : Span) where
   written-reached W (follows {it} {e} r c m) = W .good it (written-reached W r) .borne e m
 
   -- so there a path of the chunk is a path of the machine
-  pub reached-of : {height : ℕ} {A : ℕ → Option Depths} → Writing (machine S span) height A → {it : Item} → paths.Path S span it → Reached (machine S span) it
-  reached-of W paths.enters = begins refl
-  reached-of W (paths.follows {i} {e} r c able m) =
+  pub reached-of : {height : ℕ} {A : ℕ → Option Depths} → Writing (machine S span) height A → {it : Item} → writing.Path S span it → Reached (machine S span) it
+  reached-of W writing.enters = begins refl
+  reached-of W (writing.follows {i} {e} r c able m) =
       let back = reached-of W r in
       let g = W .good i (written-reached W back) .passes in
       follows back (outside S span c) (agrees i g .edges e .1 m)
@@ -193,7 +192,7 @@ module _ (S : Script) (span : Span) where
       go (no-next able plainly l e) =
           let same : r ≡ FallsOffTheEnd = cc in
           let edge = falls-edge S span p d (plain-falls (tagOf S p) plainly) in
-          rw same (refusals.runs-off (paths.follows (met .path) (met .inside) able edge) l)
+          rw same (refusals.runs-off (writing.follows (met .path) (met .inside) able edge) l)
       go (goes able n e) = absurd (zero≢one (cc))
 
   pub real-of : {r : Answer} → machine-refusals.Real (machine S span) r → Real S span r

@@ -6,8 +6,8 @@ use mathlib.Core.Option.{Option, none, some}
 use Prim.Native.Nat.{ℕ, _+_, _*_}
 use lib.Dec.{ltb, eqb}
 use lib.ListN.{length}
-use Rattle.answer.specs.Answer.{unless, Answer, NoRoom, ChunkOutOfRange, Misaligned, StackExceedsDeclared}
-use Rattle.answer.specs.Answer.{FallsOffTheEnd}
+use Rattle.answer.specs.Answer.{unless}
+use Rattle.answer.specs.declared.Answer.{Answer}
 use Rattle.code.specs.Layout.{among}
 use Rattle.listing.specs.Listing.{starts}
 use Rattle.machine.specs.Walk.{Run, accepted, refused, unfinished, Log, log, walk}
@@ -20,14 +20,14 @@ use Rattle.demand.specs.Span.{T, E, Span}
 -- 7, then 8
 unfoldable pub spanTest : (code : List ℕ) (entry end : ℕ) → Option Answer
 spanTest code entry end =
-    cond (ltb end entry || ltb (length code) end) (some (ChunkOutOfRange entry end))
-    (cond (not (among entry (starts code) || eqb entry (length code))) (some (Misaligned entry)) none)
+    cond (ltb end entry || ltb (length code) end) (some (Answer.ChunkOutOfRange entry end))
+    (cond (not (among entry (starts code) || eqb entry (length code))) (some (Answer.Misaligned entry)) none)
 
 -- 3, of so many targets and edges: room for records, then for work
 unfoldable pub roomTest : (targets edges records work : ℕ) → Option Answer
 roomTest targets edges records work =
-    cond (ltb records (4 * (1 + targets))) (some (NoRoom (4 * (1 + targets)) 3))
-    (cond (ltb work (4 * (1 + edges))) (some (NoRoom (4 * (1 + edges)) 4)) none)
+    cond (ltb records (4 * (1 + targets))) (some (Answer.NoRoom (4 * (1 + targets)) 3))
+    (cond (ltb work (4 * (1 + edges))) (some (Answer.NoRoom (4 * (1 + edges)) 4)) none)
 
 -- all of them, of a chunk, where so many words of records and of work are lent
 unfoldable pub openTest : Script → Span → (records work : ℕ) → Option Answer
@@ -43,7 +43,7 @@ pub data Judged : Type 0 where
 
 -- 14, of a walk that refuses nothing
 unfoldable pub heightTest : (height declared : ℕ) → Option Answer
-heightTest height declared = cond (ltb declared height) (some (StackExceedsDeclared height declared)) none
+heightTest height declared = cond (ltb declared height) (some (Answer.StackExceedsDeclared height declared)) none
 
 -- What a walk comes to. The last line, of a walk that is out of units, is there since a definition has to answer for
 -- every run. It is never used: a walk has as many units as there can be items, so that no item of a chunk that passed
@@ -53,7 +53,7 @@ unfoldable pub measured : (declared : ℕ) → Run Answer Log → Judged
 measured declared (accepted b) =
     unless fails (heightTest (b .height) declared) (passes (b .height) (b .reached) (b .taken))
 measured declared (refused r spent) = fails r
-measured declared (unfinished w b) = fails FallsOffTheEnd
+measured declared (unfinished w b) = fails Answer.FallsOffTheEnd
 
 module _ (S : Script) (span : Span) where
   -- the walk has as many units as there can be items, so it ends

@@ -4,9 +4,9 @@
 use mathlib.Core.Logic.{_⊎_}
 use mathlib.Core.Path.{_≡_}
 use Prim.Native.Nat.{ℕ, _≤_, _<_}
-use Rattle.answer.specs.Answer.{Answer, MissingCaps, JumpOutOfRange, JumpIntoAnInstruction, DepthConflict, Underflow}
-use Rattle.answer.specs.Answer.{FallsOffTheEnd, StackExceedsDeclared, IteratorUnderflow, HandlerUnderflow}
-use Rattle.answer.specs.Depths.{Depths, Item}
+use Rattle.answer.specs.declared.Answer.{Answer}
+use Rattle.answer.specs.declared.Depths.{Depths}
+use Rattle.answer.specs.Depths.{Item}
 use Rattle.code.specs.Width.{widthOf}
 use Rattle.listing.specs.Listing.{Start}
 use Rattle.machine.specs.Lists.{_∈_}
@@ -32,25 +32,25 @@ module _ (S : Script) (span : Span) where
 
   pub data Real : Answer → Type 0 where
     -- 4: it lacks these rights
-    lacks-rights : {p : ℕ} {d : Depths} → Met p d → 0 < lacks p → Real (MissingCaps p (lacks p))
+    lacks-rights : {p : ℕ} {d : Depths} → Met p d → 0 < lacks p → Real (Answer.MissingCaps p (lacks p))
     -- 9: it has what it needs, and names a target outside the chunk
     leaves : {p t : ℕ} {d : Depths} → Met p d → Able S p d → t ∈ targets S p → (t < span .entry) ⊎ (span .end ≤ t)
-        → Real (JumpOutOfRange p t)
+        → Real (Answer.JumpOutOfRange p t)
     -- 10: it has what it needs, and names a target in the chunk at which no instruction starts
     splits : {p t : ℕ} {d : Depths} → Met p d → Able S p d → t ∈ targets S p → span .entry ≤ t → t < span .end
-        → ¬ Start widthOf (S .code) t → Real (JumpIntoAnInstruction p t)
+        → ¬ Start widthOf (S .code) t → Real (Answer.JumpIntoAnInstruction p t)
     -- 11: two paths bring different depths to it
-    disagrees : {p : ℕ} {d e : Depths} → Met p d → Met p e → ¬ (d ≡ e) → Real (DepthConflict p d e)
+    disagrees : {p : ℕ} {d e : Depths} → Met p d → Met p e → ¬ (d ≡ e) → Real (Answer.DepthConflict p d e)
     -- 12: it has its rights, and needs more operands than there are
     underflows : {p : ℕ} {d : Depths} → Met p d → lacks p ≡ 0 → d .operands < operandsNeeded p
-        → Real (Underflow p (operandsNeeded p) (d .operands))
+        → Real (Answer.Underflow p (operandsNeeded p) (d .operands))
     -- 13: a path runs off the end
-    runs-off : {i : Item} → Path S span i → span .end ≤ i .place → Real FallsOffTheEnd
+    runs-off : {i : Item} → Path S span i → span .end ≤ i .place → Real Answer.FallsOffTheEnd
     -- 15, 16: it has its rights and its operands, and needs an iterator, or a handler, where there is none
     no-iterator : {p : ℕ} {d : Depths} → Met p d → lacks p ≡ 0 → operandsNeeded p ≤ d .operands
-        → d .iterators < iteratorsNeeded (tagOf S p) → Real (IteratorUnderflow p)
+        → d .iterators < iteratorsNeeded (tagOf S p) → Real (Answer.IteratorUnderflow p)
     no-handler : {p : ℕ} {d : Depths} → Met p d → lacks p ≡ 0 → operandsNeeded p ≤ d .operands
-        → d .handlers < handlersNeeded (tagOf S p) → Real (HandlerUnderflow p)
+        → d .handlers < handlersNeeded (tagOf S p) → Real (Answer.HandlerUnderflow p)
 
   -- 14: a whole walk refuses nothing, and the largest depth on the paths is above the declared height
   pub record Exceeds (a : Answer) : Type 0 where
@@ -59,4 +59,4 @@ module _ (S : Script) (span : Span) where
     pub taken : ℕ
     pub measures : Measures S span height reached taken
     pub above : span .declared < height
-    pub answer : a ≡ StackExceedsDeclared height (span .declared)
+    pub answer : a ≡ Answer.StackExceedsDeclared height (span .declared)

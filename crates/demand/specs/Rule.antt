@@ -7,9 +7,9 @@ use mathlib.Core.List.{List, [], _∷_, _++_, map}
 use mathlib.Core.Option.{Option, none, some}
 use Prim.Native.Nat.{ℕ}
 use lib.Dec.{ltb, leb}
-use Rattle.answer.specs.Answer.{unless, Answer, MissingCaps, JumpOutOfRange, JumpIntoAnInstruction, DepthConflict}
-use Rattle.answer.specs.Answer.{Underflow, FallsOffTheEnd, IteratorUnderflow, HandlerUnderflow}
-use Rattle.answer.specs.Depths.{Depths}
+use Rattle.answer.specs.Answer.{unless}
+use Rattle.answer.specs.declared.Answer.{Answer}
+use Rattle.answer.specs.declared.Depths.{Depths}
 use Rattle.code.specs.Layout.{among}
 use Rattle.listing.specs.Listing.{starts}
 use Rattle.machine.specs.Machine.{Ruling, denies, gives, Machine}
@@ -29,17 +29,17 @@ allTargets S (p ∷ ps) = targets S p ++ allTargets S ps
 -- many operands
 unfoldable pub needsTest : (lacks tag needs at : ℕ) → Depths → Option Answer
 needsTest lacks tag needs at d =
-    cond (ltb 0 lacks) (some (MissingCaps at lacks))
-    (cond (ltb (d .operands) needs) (some (Underflow at needs (d .operands)))
-    (cond (ltb (d .iterators) (iteratorsNeeded tag)) (some (IteratorUnderflow at))
-    (cond (ltb (d .handlers) (handlersNeeded tag)) (some (HandlerUnderflow at)) none)))
+    cond (ltb 0 lacks) (some (Answer.MissingCaps at lacks))
+    (cond (ltb (d .operands) needs) (some (Answer.Underflow at needs (d .operands)))
+    (cond (ltb (d .iterators) (iteratorsNeeded tag)) (some (Answer.IteratorUnderflow at))
+    (cond (ltb (d .handlers) (handlersNeeded tag)) (some (Answer.HandlerUnderflow at)) none)))
 
 module _ (S : Script) (span : Span) where
   -- the rule: the first test that fails denies; else control goes to each target, and falls through
   unfoldable pub rule : ℕ → Depths → Ruling Answer
   rule p d =
       unless denies (needsTest lacks (tagOf S p) need p d)
-      (cond (plain (tagOf S p) && leb (span .end) (next S p)) (denies FallsOffTheEnd)
+      (cond (plain (tagOf S p) && leb (span .end) (next S p)) (denies Answer.FallsOffTheEnd)
       (gives (after S p d .operands) (cond (falls (tagOf S p)) (some (after S p d)) none)
       (map (λ (t : ℕ). record { place = t; depths = jumped S p d }) (targets S p))))
     where
@@ -52,8 +52,8 @@ module _ (S : Script) (span : Span) where
   -- the tests of a jump from a place to a target
   unfoldable pub judge : ℕ → ℕ → Option Answer
   judge p t =
-      cond (ltb t (span .entry) || leb (span .end) t) (some (JumpOutOfRange p t))
-      (cond (among t (starts (S .code))) none (some (JumpIntoAnInstruction p t)))
+      cond (ltb t (span .entry) || leb (span .end) t) (some (Answer.JumpOutOfRange p t))
+      (cond (among t (starts (S .code))) none (some (Answer.JumpIntoAnInstruction p t)))
 
   abbrev pub machine : Machine Answer
   machine = record {
@@ -64,6 +64,6 @@ module _ (S : Script) (span : Span) where
     named = λ p. among p (span .entry ∷ allTargets S (chunkStarts S span));
     rule = rule;
     judge = judge;
-    off = FallsOffTheEnd;
-    clash = DepthConflict;
+    off = Answer.FallsOffTheEnd;
+    clash = Answer.DepthConflict;
   }

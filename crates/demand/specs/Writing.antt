@@ -11,7 +11,8 @@ use mathlib.Core.Option.{Option, some}
 use mathlib.Core.Path.{_≡_}
 use Prim.Native.Nat.{ℕ, _+_, _≤_}
 use lib.ListN.{length}
-use Rattle.answer.specs.Depths.{Depths, Item, zeros}
+use Rattle.answer.specs.declared.Depths.{Depths}
+use Rattle.answer.specs.Depths.{Item, zeros}
 use Rattle.machine.specs.Lists.{_∈_, NoRepeats, sumOf}
 use Rattle.rules.specs.Edges.{after, edges, degree}
 use Rattle.rules.specs.Needs.{Able}

@@ -5,7 +5,8 @@ use mathlib.Core.Bool.{Bool}
 use mathlib.Core.List.{List, _∷_}
 use mathlib.Core.Option.{Option, none, some}
 use Prim.Native.Nat.{ℕ}
-use Rattle.answer.specs.Depths.{Depths, zeros, Item}
+use Rattle.answer.specs.declared.Depths.{Depths}
+use Rattle.answer.specs.Depths.{zeros, Item}
 
 -- What the rule of one instruction says at some depths. Either it denies, with a refusal: rights; 12; 15 and 16; 13 of
 -- a plain instruction whose successor is not before the end. Or it gives the operands just after the instruction, the

@@ -7,7 +7,8 @@ use mathlib.Core.List.{List, [], _∷_}
 use mathlib.Core.Option.{Option, none, some}
 use Prim.Native.Nat.{ℕ, zero, suc, _+_, max}
 use lib.Dec.{ltb, eqb}
-use Rattle.answer.specs.Depths.{Depths, agree, Item}
+use Rattle.answer.specs.declared.Depths.{Depths}
+use Rattle.answer.specs.Depths.{agree, Item}
 use Rattle.machine.specs.Machine.{denies, gives, Machine, origin, fallTo}
 
 -- Where the depths of the places entered are kept. `S` is what the store holds at a moment.

@@ -6,7 +6,7 @@ use mathlib.Core.List.{_∷_}
 use mathlib.Core.Path.{_≡_}
 use Prim.Native.Nat.{ℕ, _≤_}
 use lib.Dec.{eqb}
-use Rattle.answer.specs.Depths.{Depths}
+use Rattle.answer.specs.declared.Depths.{Depths}
 use Rattle.code.specs.Layout.{among}
 use Rattle.code.specs.Tags.{ITER-DROP, POP-HANDLER, iterNexts}
 use Rattle.rules.specs.Effects.{needs}
