@@ -20,12 +20,10 @@ use Rattle.answer.specs.declared.Depths.{Depths}
 use Rattle.answer.specs.Depths.{Item}
 use Rattle.rules.specs.Edges.{after, edges, falls, plain, targets, next}
 use Rattle.machine.specs.Lists.{_∈_}
-use Rattle.machine.specs.Machine.{Ruling, denies, gives, fallTo}
-use Rattle.rules.specs.Needs.{Able}
-use Rattle.demand.specs.Refusals as refusals
-use Rattle.demand.specs.Refusals.{Met, lacks, operandsNeeded, Real, lacks-rights, leaves, splits, disagrees}
-use Rattle.demand.specs.Refusals.{underflows}
-use Rattle.demand.specs.Rule.{rule, judge, machine}
+use Rattle.machine.specs.Walk.{Ruling, denies, gives, fallTo}
+use Rattle.rules.specs.Needs.{lacks, operandsNeeded, Able}
+use Rattle.demand.specs.Writing.{Met, Real, lacks-rights, leaves, splits, disagrees, underflows}
+use Rattle.demand.specs.Chunk.{rule, judge, machine}
 use Rattle.rules.specs.Script.{Script, tagOf}
 use Rattle.demand.specs.Span.{Span}
 use Rattle.demand.specs.Writing as writing
@@ -35,9 +33,9 @@ use Rattle.machine.proofs.Lists.{∉-nil, map-∈}
 use Rattle.answer.proofs.Apart.{zero≢one}
 use Rattle.machine.proofs.Paths as machine
 use Rattle.machine.proofs.Paths.{leads, Reached, begins, follows, Good, Writing}
-use Rattle.machine.proofs.Refusals as machine-refusals
 use Rattle.demand.proofs.Says.{fall, jumpTo, jumps, Says, no-rights, no-operands, no-iterator, no-handler}
 use Rattle.demand.proofs.Says.{no-next, goes, says, edges-given, falls-edge, plain-falls}
+use Rattle.machine.proofs.Refusals as machine-refusals
 
 module _ (S : Script) (span : Span) where
   -- where the rule lets an instruction pass, the instruction is able, what it gives is what stands just after it, and its
@@ -185,18 +183,18 @@ module _ (S : Script) (span : Span) where
   denied {p} {d} {r} met q = go (says S span p d)
     where
       go : Says S span p d (rule S span p d) → Real S span r
-      go (no-rights l e) = let same : r ≡ MissingCaps p (lacks S span p) = cc in rw same (lacks-rights met l)
-      go (no-operands z l e) = let same : r ≡ Underflow p (operandsNeeded S span p) (d .operands) = cc in rw same (underflows met z l)
-      go (no-iterator z n l e) = let same : r ≡ IteratorUnderflow p = cc in rw same (refusals.no-iterator met z n l)
-      go (no-handler z n l e) = let same : r ≡ HandlerUnderflow p = cc in rw same (refusals.no-handler met z n l)
+      go (no-rights l e) = let same : r ≡ MissingCaps p (lacks S p) = cc in rw same (lacks-rights met l)
+      go (no-operands z l e) = let same : r ≡ Underflow p (operandsNeeded S p) (d .operands) = cc in rw same (underflows met z l)
+      go (no-iterator z n l e) = let same : r ≡ IteratorUnderflow p = cc in rw same (writing.no-iterator met z n l)
+      go (no-handler z n l e) = let same : r ≡ HandlerUnderflow p = cc in rw same (writing.no-handler met z n l)
       go (no-next able plainly l e) =
           let same : r ≡ FallsOffTheEnd = cc in
           let edge = falls-edge S span p d (plain-falls (tagOf S p) plainly) in
-          rw same (refusals.runs-off (writing.follows (met .path) (met .inside) able edge) l)
+          rw same (writing.runs-off (writing.follows (met .path) (met .inside) able edge) l)
       go (goes able n e) = absurd (zero≢one (cc))
 
   pub real-of : {r : Answer} → machine-refusals.Real (machine S span) r → Real S span r
-  real-of (machine-refusals.runs-off q h) = refusals.runs-off (path-of q) h
+  real-of (machine-refusals.runs-off q h) = writing.runs-off (path-of q) h
   real-of (machine-refusals.disagree c q s n) =
       disagrees (record { path = path-of q; inside = inside S span c }) (record { path = path-of s; inside = inside S span c }) n
   real-of (machine-refusals.is-barred c q e) = denied (record { path = path-of q; inside = inside S span c }) e

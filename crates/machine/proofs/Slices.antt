@@ -4,8 +4,8 @@ use mathlib.Core.List.{List, [], _∷_}
 use Prim.Native.Nat.{ℕ, zero, suc, _+_}
 use native.Mathlib.Nat.{suc-add, zero-add}
 use Rattle.answer.specs.Depths.{Item}
-use Rattle.machine.specs.Machine.{Machine}
-use Rattle.machine.specs.Walk.{Store, Book, Turn, goes-on, stops, accepted, refused, unfinished, Run, run}
+use Rattle.machine.specs.Walk.{Machine, Store, Book, Turn, goes-on, stops, run, Run, accepted, refused}
+use Rattle.machine.specs.Walk.{unfinished}
 use Rattle.machine.proofs.Turn.{Taken, again, enters, refuses, taken-so}
 use Rattle.machine.proofs.Run.{run-goes-on, run-stops}
 

@@ -11,7 +11,7 @@ use Rattle.order.proofs.Laws.{no-longer}
 use Rattle.answer.specs.Answer.{unless}
 use Rattle.demand.specs.Chunk.{spanTest, roomTest, openTest}
 use Rattle.answer.specs.declared.Answer.{Answer}
-use Rattle.demand.specs.Span.{T, E, chunkStarts, Span, InCode}
+use Rattle.demand.specs.Span.{Span, InCode, chunkStarts, T, E}
 use Rattle.rules.specs.Edges.{degree}
 use Rattle.rules.specs.Script.{Script}
 use Rattle.opening.specs.declared.Tally.{Tally}

@@ -8,7 +8,7 @@ use Prim.Native.Nat.{ℕ, _+_, _*_, _≤_}
 use lib.ListN.{length, take, replicate}
 use Rattle.answer.specs.declared.Answer.{Answer}
 use Rattle.demand.specs.Chunk.{openTest}
-use Rattle.demand.specs.Span.{T, E, Span, InCode}
+use Rattle.demand.specs.Span.{Span, InCode, T, E}
 use Rattle.order.specs.Order.{inOrder}
 use Rattle.rules.specs.Script.{Script}
 use Rattle.opening.specs.declared.Opened.{Opened}

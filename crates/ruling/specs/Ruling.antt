@@ -10,9 +10,9 @@ use lib.Dec.{ltb, leb}
 use Rattle.answer.specs.Answer.{unless}
 use Rattle.answer.specs.declared.Answer.{Answer}
 use Rattle.answer.specs.declared.Depths.{Depths}
-use Rattle.demand.specs.Rule.{needsTest, rule}
+use Rattle.demand.specs.Chunk.{needsTest, rule}
 use Rattle.demand.specs.Span.{Span}
-use Rattle.machine.specs.Machine as machine
+use Rattle.machine.specs.Walk as machine
 use Rattle.marks.specs.Marks.{bitAt, isOne}
 use Rattle.rules.specs.declared.Effect.{Effect}
 use Rattle.rules.specs.Edges.{falls, plain, afterOf, jumpedOf, after, jumped, next}

@@ -15,9 +15,8 @@ use Rattle.answer.specs.declared.verdict.Verdict.{Verdict}
 use Rattle.before.specs.Before.{beforeStores, afterStores}
 use Rattle.before.specs.Input.{Input}
 use Rattle.code.specs.Width.{widthOf}
-use Rattle.demand.specs.Refusals.{Real, Exceeds}
-use Rattle.demand.specs.Span.{InCode, T, E, Span, chunkAt}
-use Rattle.demand.specs.Writing.{Writing}
+use Rattle.demand.specs.Span.{Span, chunkAt, InCode, T, E}
+use Rattle.demand.specs.Writing.{Writing, Real, Exceeds}
 use Rattle.listing.specs.Listing.{Start}
 use Rattle.rules.specs.Script.{Script}
 use Rattle.verify.specs.Accounts.{Filled}

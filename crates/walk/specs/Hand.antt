@@ -3,7 +3,7 @@
 use mathlib.Core.List.{List}
 use Prim.Native.Nat.{ℕ, _+_, max}
 use Rattle.answer.specs.declared.Depths.{Depths}
-use Rattle.answer.specs.Depths.{Item, zeros}
+use Rattle.answer.specs.Depths.{zeros, Item}
 use Rattle.machine.specs.Walk.{Book}
 use Rattle.order.specs.Order.{below}
 use Rattle.walk.specs.declared.Counts.{Counts}

@@ -7,8 +7,8 @@ use Prim.Native.Nat.{ℕ, _+_, _<_}
 use lib.ListN.{length}
 use Rattle.answer.specs.declared.Answer.{Answer}
 use Rattle.demand.specs.BeforeWalk.{BeforeWalk}
-use Rattle.demand.specs.Rule.{machine}
-use Rattle.demand.specs.Span.{T, Span}
+use Rattle.demand.specs.Chunk.{machine}
+use Rattle.demand.specs.Span.{Span, T}
 use Rattle.machine.specs.Walk.{goes-on, stops, unfinished, seen, turn, walk}
 use Rattle.machine.specs.Walk as definition
 use Rattle.opening.specs.declared.Room.{Room}

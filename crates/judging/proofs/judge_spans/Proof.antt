@@ -22,7 +22,7 @@ use Rattle.demand.proofs.Demand.{fails-by, passes-to, judged-shut}
 use Rattle.walk.specs.declared.Counts.{Counts}
 use Rattle.walk.specs.declared.Hand.{Hand}
 use Rattle.walk.specs.declared.Turn.the-variants.{Next, Done, Refused}
-use Rattle.walk.specs.Turn.{Stops, Ends, GoesOn, WalkTurn, turnOf, roomSpan}
+use Rattle.walk.specs.Turn.{roomSpan, WalkTurn, turnOf, GoesOn, Ends, Stops}
 use Rattle.judging.specs.Spans.{spansOf}
 use Rattle.judging.proofs.Chain.{span-count, span-there, span-within, Judging, judging-first, judging-done}
 use Rattle.judging.proofs.Chain.{judging-fails, judging-passes}
