@@ -3,7 +3,7 @@
 use mathlib.Core.Bool.{Bool, _&&_}
 use Prim.Native.Nat.{ℕ}
 use lib.Dec.{eqb}
-pub use Rattle.answer.specs.declared.Depths.{Depths}
+use Rattle.answer.specs.declared.Depths.{Depths}
 
 abbrev pub zeros : Depths
 zeros = record { operands = 0; iterators = 0; handlers = 0 }

@@ -16,18 +16,17 @@ use Rattle.pools.specs.Sizes.{maxCode, limits, tells, firstOver}
 use Rattle.pools.specs.Tables as tables
 use Rattle.pools.specs.Told as told
 use Rattle.answer.specs.Answer.{numbered, unless}
-use Rattle.demand.specs.Chunk.{spanTest, openTest, heightTest, measured, walked, judgeChunk}
+use Rattle.demand.specs.Chunk.{allTargets, needsTest, rule, judge, spanTest, openTest, heightTest, measured, walked}
+use Rattle.demand.specs.Chunk.{judgeChunk}
 use Rattle.demand.specs.Chunk as chunk
 use Rattle.answer.specs.Depths.{agree}
 use Rattle.rules.specs.Edges.{falls, plain, armsOf, targetsOf, afterOf, jumpedOf, next, degree}
 use Rattle.demand.specs.Span.{T, E}
 use Rattle.rules.specs.Effects.{effect, operandsOf, needs, pops, pushes}
 use Rattle.machine.specs.Lists.{_∈_, here, there, sumOf}
-use Rattle.machine.specs.Machine.{fallTo}
+use Rattle.machine.specs.Walk.{fallTo, run, push, firstBadJump, seen, turn, lookup}
 use Rattle.rules.specs.Needs.{iteratorsNeeded, handlersNeeded}
 use Rattle.rules.specs.Rights.{required, lacking, ofName, ofChain}
-use Rattle.demand.specs.Rule.{allTargets, needsTest, rule, judge}
-use Rattle.machine.specs.Walk.{push, firstBadJump, seen, turn, run, lookup}
 use Rattle.verify.specs.Call.{verdictOn, marksOn, afterChunks, afterLateTests, afterEarlyTests}
 use Rattle.judging.specs.Judging.{judgeAll}
 

@@ -7,7 +7,7 @@ use mathlib.Core.Logic.{_≢_}
 use mathlib.Core.Path.{_≡_}
 use Prim.Native.Nat.{ℕ, _<_}
 use lib.ListN.{length, getD}
-use Rattle.answer.specs.Answer.{Verdict}
+use Rattle.answer.specs.declared.verdict.Verdict.{Verdict}
 use Rattle.before.specs.Input.{Input}
 use Rattle.demand.specs.Span.{Span}
 use Rattle.listing.specs.Starts.{starts}

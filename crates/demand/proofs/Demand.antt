@@ -17,17 +17,15 @@ use Rattle.answer.specs.Answer.{unless}
 use Rattle.answer.specs.declared.Answer.{Answer}
 use Rattle.answer.specs.declared.Answer.the-variants.{StackExceedsDeclared}
 use Rattle.answer.specs.declared.Depths.{Depths}
-use Rattle.demand.specs.Chunk.{spanTest, roomTest, openTest, Judged, passes, fails, heightTest, measured, walked}
-use Rattle.demand.specs.Chunk.{judgeChunk}
-use Rattle.demand.specs.BeforeWalk.{WalkAccepts, redeclared, BeforeWalk}
+use Rattle.demand.specs.Chunk.{rule, judge, machine, spanTest, roomTest, openTest, Judged, passes, fails}
+use Rattle.demand.specs.Chunk.{heightTest, measured, walked, judgeChunk}
+use Rattle.demand.specs.BeforeWalk.{BeforeWalk, WalkAccepts, redeclared}
 use Rattle.answer.specs.Depths.{Item}
-use Rattle.demand.specs.Span.{T, E, chunkStarts, Span}
+use Rattle.demand.specs.Span.{Span, chunkStarts, T, E}
 use Rattle.rules.specs.Edges.{degree}
-use Rattle.demand.specs.Writing.{Measures, just-after, at, DepthOnPath, Writing}
-use Rattle.demand.specs.Refusals.{Real, Exceeds}
-use Rattle.demand.specs.Rule.{rule, judge, machine}
+use Rattle.demand.specs.Writing.{Writing, at, DepthOnPath, just-after, Measures, Real, Exceeds}
 use Rattle.rules.specs.Script.{Script}
-use Rattle.machine.specs.Walk.{Book, Run, accepted, refused, unfinished, Log, log, walk}
+use Rattle.machine.specs.Walk.{Book, Run, accepted, refused, unfinished, walk, Log, log}
 use Rattle.machine.proofs.Ends.{Bounded, ends, unfinished-bounded, accepted-bounded}
 use Rattle.machine.proofs.Exactly.{Accepts, exactly}
 use Rattle.demand.proofs.Keeps.{keeps-laws}

@@ -19,9 +19,9 @@ use Rattle.answer.specs.declared.Answer.{Answer}
 use Rattle.answer.specs.declared.Answer.the-variants.{JumpOutOfRange, JumpIntoAnInstruction}
 use Rattle.demand.specs.BeforeWalk.{BeforeWalk}
 use Rattle.rules.specs.Edges.{next}
-use Rattle.demand.specs.Span.{chunkStarts, Span}
+use Rattle.demand.specs.Span.{Span, chunkStarts}
 use Rattle.machine.specs.Lists.{_∈_}
-use Rattle.demand.specs.Rule.{machine, judge}
+use Rattle.demand.specs.Chunk.{judge, machine}
 use Rattle.rules.specs.Script.{Script}
 use Rattle.demand.specs.Span as spans
 use Rattle.machine.proofs.Laws.{InChunk}

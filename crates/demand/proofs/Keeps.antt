@@ -18,11 +18,11 @@ use Rattle.answer.specs.declared.Depths.{Depths}
 use Rattle.demand.specs.BeforeWalk.{BeforeWalk}
 use Rattle.answer.specs.Depths.{Item}
 use Rattle.rules.specs.Edges.{falls, targets, afterOf, jumpedOf, after, next, degree}
-use Rattle.demand.specs.Span.{chunkStarts, Span}
+use Rattle.demand.specs.Span.{Span, chunkStarts}
 use Rattle.rules.specs.Effects.{pops, pushes}
 use Rattle.machine.specs.Lists.{_∈_, here, there}
-use Rattle.machine.specs.Machine.{Ruling, fallTo}
-use Rattle.demand.specs.Rule.{allTargets, rule, machine}
+use Rattle.machine.specs.Walk.{Ruling, fallTo}
+use Rattle.demand.specs.Chunk.{allTargets, rule, machine}
 use Rattle.rules.specs.Script.{Script, tagOf}
 use Rattle.rules.proofs.Amounts.{pushes-at-most-one, pushes-none}
 use Rattle.demand.proofs.Inside.{inside, judged, entry-starts, next-above, next-least, next-starts, listed}

@@ -20,25 +20,16 @@ use Rattle.answer.specs.declared.Answer.the-variants.{HandlerUnderflow}
 use Rattle.answer.specs.declared.Depths.{Depths}
 use Rattle.answer.specs.Depths.{Item}
 use Rattle.rules.specs.Edges.{jumping, falls, plain, targets, after, jumped, next, edges}
-use Rattle.rules.specs.Effects.{needs}
 use Rattle.machine.specs.Lists.{_∈_, here, there}
-use Rattle.machine.specs.Machine.{Ruling, denies, gives, fallTo}
-use Rattle.rules.specs.Needs.{iteratorsNeeded, handlersNeeded, Able}
-use Rattle.rules.specs.Rights.{required, lacking}
-use Rattle.demand.specs.Rule.{needsTest, rule}
+use Rattle.machine.specs.Walk.{Ruling, denies, gives, fallTo}
+use Rattle.rules.specs.Needs.{iteratorsNeeded, handlersNeeded, lacks, operandsNeeded, Able}
+use Rattle.demand.specs.Chunk.{needsTest, rule}
 use Rattle.rules.specs.Script.{Script, tagOf}
 use Rattle.demand.specs.Span.{Span}
 use Rattle.machine.proofs.Lists.{∈-cases, ∉-nil}
 use Rattle.answer.proofs.Apart.{zero≢one}
 
 module _ (S : Script) (span : Span) (p : ℕ) (d : Depths) where
-  -- what it needs and lacks, and the operands that it needs
-  abbrev pub lacks : ℕ
-  lacks = lacking (required (S .code) (S .pools .names) (S .pools .chains) (S .pools .steps) p) (S .rights)
-
-  abbrev pub need : ℕ
-  need = needs (S .code) (S .pools .chains) p
-
   -- where it goes
   abbrev pub fall : Bool → Option Depths
   fall b = cond b (some (after S p d)) none
@@ -50,23 +41,23 @@ module _ (S : Script) (span : Span) (p : ℕ) (d : Depths) where
   jumps = map jumpTo (targets S p)
 
   pub data Says (o : Ruling Answer) : Type 0 where
-    no-rights : 0 < lacks → o ≡ denies (MissingCaps p lacks) → Says o
-    no-operands : lacks ≡ 0 → d .operands < need → o ≡ denies (Underflow p need (d .operands)) → Says o
-    no-iterator : lacks ≡ 0 → need ≤ d .operands → d .iterators < iteratorsNeeded (tagOf S p) → o ≡ denies (IteratorUnderflow p) → Says o
-    no-handler : lacks ≡ 0 → need ≤ d .operands → d .handlers < handlersNeeded (tagOf S p) → o ≡ denies (HandlerUnderflow p) → Says o
+    no-rights : 0 < lacks S p → o ≡ denies (MissingCaps p (lacks S p)) → Says o
+    no-operands : lacks S p ≡ 0 → d .operands < operandsNeeded S p → o ≡ denies (Underflow p (operandsNeeded S p) (d .operands)) → Says o
+    no-iterator : lacks S p ≡ 0 → operandsNeeded S p ≤ d .operands → d .iterators < iteratorsNeeded (tagOf S p) → o ≡ denies (IteratorUnderflow p) → Says o
+    no-handler : lacks S p ≡ 0 → operandsNeeded S p ≤ d .operands → d .handlers < handlersNeeded (tagOf S p) → o ≡ denies (HandlerUnderflow p) → Says o
     no-next : Able S p d → plain (tagOf S p) ≡ true → span .end ≤ next S p → o ≡ denies FallsOffTheEnd → Says o
     goes : Able S p d → (plain (tagOf S p) ≡ true → next S p < span .end)
         → o ≡ gives (after S p d .operands) (fall (falls (tagOf S p))) jumps → Says o
 
   pub says : Says (rule S span p d)
   unfolding rule needsTest unless
-  says = by-rights (ltb 0 lacks) refl
+  says = by-rights (ltb 0 (lacks S p)) refl
     where
       ruling : Bool → Bool → Bool → Bool → Bool → Ruling Answer
       ruling a b e f g =
           unless denies
-          (cond a (some (MissingCaps p lacks))
-          (cond b (some (Underflow p need (d .operands)))
+          (cond a (some (MissingCaps p (lacks S p)))
+          (cond b (some (Underflow p (operandsNeeded S p) (d .operands)))
           (cond e (some (IteratorUnderflow p)) (cond f (some (HandlerUnderflow p)) none))))
           (cond g (denies FallsOffTheEnd) (gives (after S p d .operands) (fall (falls (tagOf S p))) jumps))
 
@@ -79,28 +70,28 @@ module _ (S : Script) (span : Span) (p : ℕ) (d : Depths) where
       at-end : Bool
       at-end = plain (tagOf S p) && leb (span .end) (next S p)
 
-      by-handlers : lacks ≡ 0 → need ≤ d .operands → iteratorsNeeded (tagOf S p) ≤ d .iterators
+      by-handlers : lacks S p ≡ 0 → operandsNeeded S p ≤ d .operands → iteratorsNeeded (tagOf S p) ≤ d .iterators
           → (f : Bool) → ltb (d .handlers) (handlersNeeded (tagOf S p)) ≡ f → Says (ruling false false false f at-end)
       by-handlers r o i true q = no-handler r o (ltb-true (d .handlers) (handlersNeeded (tagOf S p)) q) refl
       by-handlers r o i false q =
           by-end (record { rights = r; operands = o; iterators = i; handlers = ltb-false (d .handlers) (handlersNeeded (tagOf S p)) q })
           (plain (tagOf S p)) refl (leb (span .end) (next S p)) refl
 
-      by-iterators : lacks ≡ 0 → need ≤ d .operands → (e : Bool) → ltb (d .iterators) (iteratorsNeeded (tagOf S p)) ≡ e
+      by-iterators : lacks S p ≡ 0 → operandsNeeded S p ≤ d .operands → (e : Bool) → ltb (d .iterators) (iteratorsNeeded (tagOf S p)) ≡ e
           → Says (ruling false false e (ltb (d .handlers) (handlersNeeded (tagOf S p))) at-end)
       by-iterators r o true q = no-iterator r o (ltb-true (d .iterators) (iteratorsNeeded (tagOf S p)) q) refl
       by-iterators r o false q =
           by-handlers r o (ltb-false (d .iterators) (iteratorsNeeded (tagOf S p)) q) (ltb (d .handlers) (handlersNeeded (tagOf S p))) refl
 
-      by-operands : lacks ≡ 0 → (b : Bool) → ltb (d .operands) need ≡ b
+      by-operands : lacks S p ≡ 0 → (b : Bool) → ltb (d .operands) (operandsNeeded S p) ≡ b
           → Says (ruling false b (ltb (d .iterators) (iteratorsNeeded (tagOf S p))) (ltb (d .handlers) (handlersNeeded (tagOf S p))) at-end)
-      by-operands r true q = no-operands r (ltb-true (d .operands) need q) refl
-      by-operands r false q = by-iterators r (ltb-false (d .operands) need q) (ltb (d .iterators) (iteratorsNeeded (tagOf S p))) refl
+      by-operands r true q = no-operands r (ltb-true (d .operands) (operandsNeeded S p) q) refl
+      by-operands r false q = by-iterators r (ltb-false (d .operands) (operandsNeeded S p) q) (ltb (d .iterators) (iteratorsNeeded (tagOf S p))) refl
 
-      by-rights : (a : Bool) → ltb 0 lacks ≡ a
-          → Says (ruling a (ltb (d .operands) need) (ltb (d .iterators) (iteratorsNeeded (tagOf S p))) (ltb (d .handlers) (handlersNeeded (tagOf S p))) at-end)
-      by-rights true q = no-rights (ltb-true 0 lacks q) refl
-      by-rights false q = let none = ltb-false 0 lacks q in by-operands (omega arith) (ltb (d .operands) need) refl
+      by-rights : (a : Bool) → ltb 0 (lacks S p) ≡ a
+          → Says (ruling a (ltb (d .operands) (operandsNeeded S p)) (ltb (d .iterators) (iteratorsNeeded (tagOf S p))) (ltb (d .handlers) (handlersNeeded (tagOf S p))) at-end)
+      by-rights true q = no-rights (ltb-true 0 (lacks S p) q) refl
+      by-rights false q = let none = ltb-false 0 (lacks S p) q in by-operands (omega arith) (ltb (d .operands) (operandsNeeded S p)) refl
 
   -- the edges of the definition are those of what the rule gives: the fall-through and the jumps
   pub edges-given : (e : Item) → e ∈ edges S p d ↔ e ∈ fallTo (next S p) (fall (falls (tagOf S p))) jumps

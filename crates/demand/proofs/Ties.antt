@@ -20,13 +20,10 @@ use Rattle.answer.specs.declared.Depths.{Depths}
 use Rattle.answer.specs.Depths.{Item}
 use Rattle.rules.specs.Edges.{after, edges, falls, plain, targets, next}
 use Rattle.machine.specs.Lists.{_∈_}
-use Rattle.machine.specs.Machine.{Ruling, denies, gives, fallTo}
-use Rattle.demand.specs.Writing as paths
-use Rattle.rules.specs.Needs.{Able}
-use Rattle.demand.specs.Refusals as refusals
-use Rattle.demand.specs.Refusals.{Met, lacks, operandsNeeded, Real, lacks-rights, leaves, splits, disagrees}
-use Rattle.demand.specs.Refusals.{underflows}
-use Rattle.demand.specs.Rule.{rule, judge, machine}
+use Rattle.machine.specs.Walk.{Ruling, denies, gives, fallTo}
+use Rattle.rules.specs.Needs.{lacks, operandsNeeded, Able}
+use Rattle.demand.specs.Writing.{Met, Real, lacks-rights, leaves, splits, disagrees, underflows}
+use Rattle.demand.specs.Chunk.{rule, judge, machine}
 use Rattle.rules.specs.Script.{Script, tagOf}
 use Rattle.demand.specs.Span.{Span}
 use Rattle.demand.specs.Writing as writing
@@ -36,9 +33,9 @@ use Rattle.machine.proofs.Lists.{∉-nil, map-∈}
 use Rattle.answer.proofs.Apart.{zero≢one}
 use Rattle.machine.proofs.Paths as machine
 use Rattle.machine.proofs.Paths.{leads, Reached, begins, follows, Good, Writing}
-use Rattle.machine.proofs.Refusals as machine-refusals
 use Rattle.demand.proofs.Says.{fall, jumpTo, jumps, Says, no-rights, no-operands, no-iterator, no-handler}
 use Rattle.demand.proofs.Says.{no-next, goes, says, edges-given, falls-edge, plain-falls}
+use Rattle.machine.proofs.Refusals as machine-refusals
 
 module _ (S : Script) (span : Span) where
   -- where the rule lets an instruction pass, the instruction is able, what it gives is what stands just after it, and its
@@ -98,17 +95,17 @@ module _ (S : Script) (span : Span) where
   -- ---- paths
 
   -- a path of the machine is a path of the chunk
-  pub path-of : {it : Item} → Reached (machine S span) it → paths.Path S span it
+  pub path-of : {it : Item} → Reached (machine S span) it → writing.Path S span it
   unfolding leads
-  path-of (begins e) = rw e paths.enters
+  path-of (begins e) = rw e writing.enters
   path-of (follows {it} {e} r c m) = go (path-of r) (rule S span (it .place) (it .depths)) refl m
     where
-      go : paths.Path S span it → (o : Ruling Answer) → rule S span (it .place) (it .depths) ≡ o → e ∈ leads (next S (it .place)) o
-          → paths.Path S span e
+      go : writing.Path S span it → (o : Ruling Answer) → rule S span (it .place) (it .depths) ≡ o → e ∈ leads (next S (it .place)) o
+          → writing.Path S span e
       go back (denies x) q k = absurd (∉-nil k)
       go back (gives post fall jumps) q k =
           let a = agrees it (record { post = post; fall = fall; jumps = jumps; ruled = q }) in
-          paths.follows back (inside S span c) (a .able) (a .edges e .0 m)
+          writing.follows back (inside S span c) (a .able) (a .edges e .0 m)
 
   -- ---- writings
 
@@ -119,9 +116,9 @@ module _ (S : Script) (span : Span) where
   written-reached W (follows {it} {e} r c m) = W .good it (written-reached W r) .borne e m
 
   -- so there a path of the chunk is a path of the machine
-  pub reached-of : {height : ℕ} {A : ℕ → Option Depths} → Writing (machine S span) height A → {it : Item} → paths.Path S span it → Reached (machine S span) it
-  reached-of W paths.enters = begins refl
-  reached-of W (paths.follows {i} {e} r c able m) =
+  pub reached-of : {height : ℕ} {A : ℕ → Option Depths} → Writing (machine S span) height A → {it : Item} → writing.Path S span it → Reached (machine S span) it
+  reached-of W writing.enters = begins refl
+  reached-of W (writing.follows {i} {e} r c able m) =
       let back = reached-of W r in
       let g = W .good i (written-reached W back) .passes in
       follows back (outside S span c) (agrees i g .edges e .1 m)
@@ -186,18 +183,18 @@ module _ (S : Script) (span : Span) where
   denied {p} {d} {r} met q = go (says S span p d)
     where
       go : Says S span p d (rule S span p d) → Real S span r
-      go (no-rights l e) = let same : r ≡ MissingCaps p (lacks S span p) = cc in rw same (lacks-rights met l)
-      go (no-operands z l e) = let same : r ≡ Underflow p (operandsNeeded S span p) (d .operands) = cc in rw same (underflows met z l)
-      go (no-iterator z n l e) = let same : r ≡ IteratorUnderflow p = cc in rw same (refusals.no-iterator met z n l)
-      go (no-handler z n l e) = let same : r ≡ HandlerUnderflow p = cc in rw same (refusals.no-handler met z n l)
+      go (no-rights l e) = let same : r ≡ MissingCaps p (lacks S p) = cc in rw same (lacks-rights met l)
+      go (no-operands z l e) = let same : r ≡ Underflow p (operandsNeeded S p) (d .operands) = cc in rw same (underflows met z l)
+      go (no-iterator z n l e) = let same : r ≡ IteratorUnderflow p = cc in rw same (writing.no-iterator met z n l)
+      go (no-handler z n l e) = let same : r ≡ HandlerUnderflow p = cc in rw same (writing.no-handler met z n l)
       go (no-next able plainly l e) =
           let same : r ≡ FallsOffTheEnd = cc in
           let edge = falls-edge S span p d (plain-falls (tagOf S p) plainly) in
-          rw same (refusals.runs-off (paths.follows (met .path) (met .inside) able edge) l)
+          rw same (writing.runs-off (writing.follows (met .path) (met .inside) able edge) l)
       go (goes able n e) = absurd (zero≢one (cc))
 
   pub real-of : {r : Answer} → machine-refusals.Real (machine S span) r → Real S span r
-  real-of (machine-refusals.runs-off q h) = refusals.runs-off (path-of q) h
+  real-of (machine-refusals.runs-off q h) = writing.runs-off (path-of q) h
   real-of (machine-refusals.disagree c q s n) =
       disagrees (record { path = path-of q; inside = inside S span c }) (record { path = path-of s; inside = inside S span c }) n
   real-of (machine-refusals.is-barred c q e) = denied (record { path = path-of q; inside = inside S span c }) e

@@ -1,7 +1,5 @@
 -- The definitions that contracts and laws cite.
 pub mod Span
 pub mod Writing
-pub mod Refusals
-pub mod Rule
 pub mod Chunk
 pub mod BeforeWalk

@@ -14,7 +14,7 @@ use Rattle.demand.specs.Span.{Span, chunkAt}
 use Rattle.judging.specs.declared.Judgement.the-variants.{Passed, Refused}
 use Rattle.judging.specs.Spans.{spansOf}
 use Rattle.judging.specs.Judging.{JudgedAll, judgeAll}
-use Rattle.judging.specs.Judges.{Judges, mostTaken, mostReached}
+use Rattle.judging.specs.Judges.{Judges, mostReached, mostTaken}
 
 -- ---- spans
 

@@ -29,9 +29,9 @@ use Rattle.answer.specs.declared.Outcome.the-variants.{Passed, Refused as Faile
 use Rattle.answer.specs.Answer.{told, unless}
 use Rattle.demand.proofs.Demand.{Height, above, within, within-or-above}
 use Rattle.answer.proofs.Apart.{zero≢one}
-use Rattle.demand.specs.Chunk.{judgeChunk, passes, fails, heightTest}
-use Rattle.demand.specs.BeforeWalk.{redeclared, BeforeWalk}
-use Rattle.demand.specs.Span.{T, E, chunkStarts, Span}
+use Rattle.demand.specs.Chunk.{passes, fails, heightTest, judgeChunk}
+use Rattle.demand.specs.BeforeWalk.{BeforeWalk, redeclared}
+use Rattle.demand.specs.Span.{Span, chunkStarts, T, E}
 use Rattle.rules.specs.Edges.{falls, degree}
 use Rattle.machine.specs.Lists.{_∈_, here, there, sumOf}
 use Rattle.demand.proofs.Inside.{inside, entry-starts}
@@ -42,8 +42,8 @@ use Rattle.walk.specs.declared.Counts.{Counts}
 use Rattle.walk.specs.declared.Hand.{Hand}
 use Rattle.walk.specs.declared.Turn.{Turn}
 use Rattle.walk.specs.declared.Turn.the-variants.{Next, Done, Refused as Stopped}
-use Rattle.walk.specs.Ends.{Closed, Abandoned, zeroed}
-use Rattle.walk.specs.Turn.{ItemTaken, Stops, Ends, GoesOn, AtItem, turnOf, roomSpan}
+use Rattle.walk.specs.Ends.{zeroed, Abandoned, Closed}
+use Rattle.walk.specs.Turn.{roomSpan, turnOf, AtItem, GoesOn, Ends, Stops, ItemTaken}
 use Rattle.walk.specs.Hand.{firstHand}
 use Rattle.walk.proofs.Chunks.{begins, goes, last-fit, Few, few, ended, refuses-so}
 use Rattle.walk.proofs.Moment.{fit, small}

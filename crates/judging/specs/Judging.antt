@@ -7,8 +7,7 @@ use lib.ListN.{set}
 use Rattle.demand.specs.Chunk.{passes, fails, judgeChunk}
 use Rattle.demand.specs.Span.{Span}
 use Rattle.rules.specs.Script.{Script}
-pub use Rattle.judging.specs.declared.Judgement.{Judgement}
-pub use Rattle.judging.specs.declared.Judgement.the-variants.{Passed, Refused}
+use Rattle.judging.specs.declared.Judgement.{Judgement}
 
 -- chunks judged one after the other: the answer, and what heights hold with it
 pub record JudgedAll : Type 0 where
@@ -19,9 +18,9 @@ pub record JudgedAll : Type 0 where
 -- come to
 module _ (S : Script) (records work : ℕ) where
   unfoldable pub judgeAll : List Span → (number reached taken : ℕ) → (heights : List ℕ) → JudgedAll
-  judgeAll [] number reached taken heights = record { answer = Passed reached taken; heights = heights }
+  judgeAll [] number reached taken heights = record { answer = Judgement.Passed reached taken; heights = heights }
   judgeAll (span ∷ spans) number reached taken heights =
       elim (judgeChunk S span records work) [
         | passes height r t ↦ judgeAll spans (number + 1) (reached + r) (taken + t) (set heights number height)
-        | fails a ↦ record { answer = Refused number a; heights = heights }
+        | fails a ↦ record { answer = Judgement.Refused number a; heights = heights }
       ]

@@ -6,8 +6,7 @@ use mathlib.Core.Logic.{_⊎_, inl, inr}
 use mathlib.Core.Option.{some}
 use Rattle.machine.specs.Lists.{_∈_, here, there}
 use Rattle.answer.specs.Depths.{Item}
-use Rattle.machine.specs.Machine.{Machine, origin}
-use Rattle.machine.specs.Walk.{Book, seen, Log, log}
+use Rattle.machine.specs.Walk.{Machine, origin, Book, seen, Log, log}
 use Rattle.answer.proofs.Apart.{zero≢one}
 use Rattle.machine.proofs.Lists.{∈-cases}
 use Rattle.machine.proofs.Laws.{InChunk, Passes}

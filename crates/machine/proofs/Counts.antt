@@ -8,8 +8,7 @@ use lib.ListN.{length}
 use Rattle.machine.specs.Lists.{_∈_, here, there, sumOf}
 use Rattle.answer.specs.Depths.{Item}
 use Rattle.answer.specs.declared.Depths.{Depths}
-use Rattle.machine.specs.Machine.{Machine, fallTo}
-use Rattle.machine.specs.Walk.{Book, dropped, entered, Log, log}
+use Rattle.machine.specs.Walk.{Machine, fallTo, Book, dropped, entered, Log, log}
 use Rattle.machine.proofs.Lists.{∈-cases}
 use Rattle.machine.proofs.Laws.{InChunk, Passes, Carried, Fair, Laws, fair-at}
 use Rattle.machine.proofs.Paths.{edges, edges-are}

@@ -8,8 +8,7 @@ use native.Mathlib.Omega.{arith}
 use lib.ListN.{length, length-map}
 use Rattle.machine.specs.Lists.{_∈_, NoRepeats, sumOf}
 use Rattle.answer.specs.Depths.{Item}
-use Rattle.machine.specs.Machine.{Machine, fallTo}
-use Rattle.machine.specs.Walk.{Book, accepted, refused, unfinished, walk, Log, log}
+use Rattle.machine.specs.Walk.{Machine, fallTo, Book, accepted, refused, unfinished, walk, Log, log}
 use Rattle.machine.proofs.Lists.{∈-cases, sum-le, sum-ones}
 use Rattle.machine.proofs.Laws.{InChunk, Carried, Laws, fair-at}
 use Rattle.machine.proofs.Paths.{edges-are, OnPath, stand-at, stand-after}

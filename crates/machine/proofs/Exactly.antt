@@ -9,8 +9,8 @@ use native.Mathlib.Omega.{arith}
 use Rattle.machine.specs.Lists.{_∈_, here, there, sumOf}
 use Rattle.answer.specs.Depths.{Item}
 use Rattle.answer.specs.declared.Depths.{Depths}
-use Rattle.machine.specs.Machine.{Machine, origin}
-use Rattle.machine.specs.Walk.{Book, blank, entered, Run, accepted, refused, unfinished, walk, Log, lookup, log}
+use Rattle.machine.specs.Walk.{Machine, origin, Book, blank, entered, Run, accepted, refused, unfinished, walk}
+use Rattle.machine.specs.Walk.{Log, lookup, log}
 use Rattle.answer.proofs.Apart.{zero≢one}
 use Rattle.machine.proofs.Lists.{∉-nil, ∈-cases}
 use Rattle.machine.proofs.Laws.{Laws}

@@ -10,7 +10,7 @@ use lib.ListN.{length}
 use Rattle.machine.specs.Lists.{_∈_}
 use Rattle.answer.specs.Depths.{Item}
 use Rattle.answer.specs.declared.Depths.{Depths}
-use Rattle.machine.specs.Machine.{Ruling, denies, gives, Machine, fallTo}
+use Rattle.machine.specs.Walk.{Ruling, denies, gives, Machine, fallTo}
 
 -- An instruction of the chunk starts here.
 pub record InChunk {R : Type 0} (M : Machine R) (p : ℕ) : Type 0 where

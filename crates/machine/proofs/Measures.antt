@@ -6,8 +6,7 @@ use mathlib.Core.List.{List, []}
 use Prim.Native.Nat.{ℕ, _+_}
 use native.Mathlib.Omega.{arith}
 use Rattle.machine.specs.Lists.{sumOf}
-use Rattle.machine.specs.Machine.{Machine}
-use Rattle.machine.specs.Walk.{Book, accepted, walk, Log, log}
+use Rattle.machine.specs.Walk.{Machine, Book, accepted, walk, Log, log}
 use Rattle.machine.proofs.Laws.{Laws}
 use Rattle.machine.proofs.Paths.{Measured}
 use Rattle.machine.proofs.Tables.{places, finished-measures}

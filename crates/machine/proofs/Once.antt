@@ -10,8 +10,7 @@ use native.Mathlib.Omega.{arith}
 use Rattle.machine.specs.Lists.{_∈_, here, there, NoRepeats}
 use Rattle.answer.specs.Depths.{Item}
 use Rattle.answer.specs.declared.Depths.{Depths}
-use Rattle.machine.specs.Machine.{Machine, fallTo}
-use Rattle.machine.specs.Walk.{Book, push, Log, log}
+use Rattle.machine.specs.Walk.{Machine, fallTo, Book, push, Log, log}
 use Rattle.answer.proofs.Apart.{zero≢one}
 use Rattle.machine.proofs.Lists.{∈-cases}
 use Rattle.machine.proofs.Laws.{InChunk, Passes, Laws, fair-at, next-injective}

@@ -9,7 +9,7 @@ use lib.ListN.{length}
 use Rattle.machine.specs.Lists.{_∈_, NoRepeats, sumOf}
 use Rattle.answer.specs.Depths.{zeros, Item}
 use Rattle.answer.specs.declared.Depths.{Depths}
-use Rattle.machine.specs.Machine.{Ruling, denies, gives, Machine, origin, fallTo}
+use Rattle.machine.specs.Walk.{Ruling, denies, gives, Machine, origin, fallTo}
 use Rattle.machine.proofs.Lists.{sum-same, sum-ones}
 use Rattle.machine.proofs.Laws.{InChunk, Passes}
 

@@ -7,8 +7,7 @@ use Prim.Native.Nat.{ℕ, _≤_, _<_}
 use Rattle.machine.specs.Lists.{_∈_, here}
 use Rattle.answer.specs.Depths.{Item}
 use Rattle.answer.specs.declared.Depths.{Depths}
-use Rattle.machine.specs.Machine.{denies, Machine}
-use Rattle.machine.specs.Walk.{Book, refused, walk, Log, log}
+use Rattle.machine.specs.Walk.{denies, Machine, Book, refused, walk, Log, log}
 use Rattle.machine.proofs.Laws.{InChunk, Passes, Laws}
 use Rattle.machine.proofs.Paths.{Reached}
 use Rattle.machine.proofs.Turn.{bad-some, Refuses, is-off, clashes, is-denied, jumps-badly}

@@ -5,9 +5,8 @@ use Prim.Native.Nat.{ℕ, zero, suc, _+_, _<_}
 use native.Mathlib.Omega.{arith}
 use lib.ListN.{length}
 use Rattle.answer.specs.Depths.{Item}
-use Rattle.machine.specs.Machine.{Machine}
-use Rattle.machine.specs.Walk.{Store, Book, dropped, entered, Turn, goes-on, stops, Run, accepted, refused}
-use Rattle.machine.specs.Walk.{unfinished, run}
+use Rattle.machine.specs.Walk.{Machine, Store, Book, dropped, entered, Turn, goes-on, stops, run, Run, accepted}
+use Rattle.machine.specs.Walk.{refused, unfinished}
 use Rattle.machine.proofs.Waiting.{waiting}
 use Rattle.machine.proofs.Turn.{Again, Enters, Refuses, Taken, again, enters, refuses, turn-is, taken-so}
 

@@ -4,8 +4,8 @@ use mathlib.Core.List.{List, [], _∷_}
 use Prim.Native.Nat.{ℕ, zero, suc, _+_}
 use native.Mathlib.Nat.{suc-add, zero-add}
 use Rattle.answer.specs.Depths.{Item}
-use Rattle.machine.specs.Machine.{Machine}
-use Rattle.machine.specs.Walk.{Store, Book, Turn, goes-on, stops, accepted, refused, unfinished, Run, run}
+use Rattle.machine.specs.Walk.{Machine, Store, Book, Turn, goes-on, stops, run, Run, accepted, refused}
+use Rattle.machine.specs.Walk.{unfinished}
 use Rattle.machine.proofs.Turn.{Taken, again, enters, refuses, taken-so}
 use Rattle.machine.proofs.Run.{run-goes-on, run-stops}
 
@@ -14,14 +14,14 @@ module _ {R S : Type 0} (M : Machine R) (K : Store S) where
   unfoldable pub resume : ℕ → Run R S → Run R S
   resume n (accepted b) = accepted b
   resume n (refused r units) = refused r units
-  resume n (unfinished w b) = run n w b
+  resume n (unfinished w b) = run M K n w b
 
   run-nil : (n : ℕ) (b : Book S) → run M K n [] b ≡ accepted b
   unfolding run
   run-nil zero b = refl
   run-nil (suc n) b = refl
 
-  pub run-add : (m n : ℕ) (w : List Item) (b : Book S) → run M K (m + n) w b ≡ resume M K n (run M K m w b)
+  pub run-add : (m n : ℕ) (w : List Item) (b : Book S) → run M K (m + n) w b ≡ resume n (run M K m w b)
   unfolding run resume
   run-add zero n [] b = run-nil (0 + n) b
   run-add zero n (it ∷ w) b = rw zero-add
@@ -30,8 +30,8 @@ module _ {R S : Type 0} (M : Machine R) (K : Store S) where
     where
       go : {t : Turn R S}
           → Taken M K it w b t
-          → ((w′ : List Item) (b′ : Book S) → run M K (m + n) w′ b′ ≡ resume M K n (run M K m w′ b′))
-          → run M K (suc (m + n)) (it ∷ w) b ≡ resume M K n (run M K (suc m) (it ∷ w) b)
+          → ((w′ : List Item) (b′ : Book S) → run M K (m + n) w′ b′ ≡ resume n (run M K m w′ b′))
+          → run M K (suc (m + n)) (it ∷ w) b ≡ resume n (run M K (suc m) (it ∷ w) b)
       go (again a) ih = rw (run-goes-on M K (m + n) (again a), run-goes-on M K m (again a)) (ih _ _)
       go (enters f) ih = rw (run-goes-on M K (m + n) (enters f), run-goes-on M K m (enters f)) (ih _ _)
       go (refuses s) ih = rw (run-stops M K (m + n) (refuses s), run-stops M K m (refuses s))

@@ -8,8 +8,7 @@ use native.Mathlib.Nat.{zero-add}
 use native.Mathlib.Omega.{arith}
 use Rattle.machine.specs.Lists.{_∈_, here, there, sumOf}
 use Rattle.answer.specs.Depths.{Item}
-use Rattle.machine.specs.Machine.{Machine, origin}
-use Rattle.machine.specs.Walk.{Book, blank, accepted, refused, unfinished, walk, Log, log}
+use Rattle.machine.specs.Walk.{Machine, origin, Book, blank, accepted, refused, unfinished, walk, Log, log}
 use Rattle.answer.proofs.Apart.{zero≢one}
 use Rattle.machine.proofs.Lists.{∉-nil, ∈-cases}
 use Rattle.machine.proofs.Laws.{Laws}

@@ -9,9 +9,8 @@ use native.Mathlib.Omega.{arith}
 use lib.ListN.{length}
 use Rattle.machine.specs.Lists.{sumOf}
 use Rattle.answer.specs.Depths.{Item}
-use Rattle.machine.specs.Machine.{Machine, origin}
-use Rattle.machine.specs.Walk.{Store, Book, blank, dropped, entered, Turn, Run, accepted, refused, unfinished}
-use Rattle.machine.specs.Walk.{seen, run, walk, Log, lookup, log}
+use Rattle.machine.specs.Walk.{Machine, origin, Store, Book, blank, dropped, entered, Turn, run, Run, accepted}
+use Rattle.machine.specs.Walk.{refused, unfinished, seen, walk, Log, lookup, log}
 use Rattle.machine.proofs.Laws.{Laws}
 use Rattle.machine.proofs.Tables.{lookup-hit, lookup-miss}
 use Rattle.machine.proofs.Turn.{seen-named, seen-other, Again, New, Enters, Refuses, is-off, clashes, is-denied}

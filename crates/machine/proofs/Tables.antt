@@ -13,8 +13,7 @@ use borrow.Author.Tests.{eq-eqb, ne-eqb}
 use Rattle.machine.specs.Lists.{_∈_, here, there, NoRepeats, sumOf}
 use Rattle.answer.specs.Depths.{Item}
 use Rattle.answer.specs.declared.Depths.{Depths}
-use Rattle.machine.specs.Machine.{Ruling, denies, gives, Machine, origin}
-use Rattle.machine.specs.Walk.{lookup}
+use Rattle.machine.specs.Walk.{Ruling, denies, gives, Machine, origin, lookup}
 use Rattle.answer.proofs.Apart.{zero≢one}
 use Rattle.machine.proofs.Lists.{∉-nil, ∈-cases, ∈-map, map-∈}
 use Rattle.machine.proofs.Laws.{InChunk, Passes}

@@ -10,8 +10,8 @@ use borrow.Author.Tests.{ltb-true, ltb-false, lt-ltb, le-ltb}
 use Rattle.machine.specs.Lists.{_∈_, here, there}
 use Rattle.answer.specs.Depths.{agree, Item}
 use Rattle.answer.specs.declared.Depths.{Depths}
-use Rattle.machine.specs.Machine.{Ruling, denies, gives, Machine}
-use Rattle.machine.specs.Walk.{Store, Book, dropped, entered, Turn, goes-on, stops, firstBadJump, seen, turn}
+use Rattle.machine.specs.Walk.{Ruling, denies, gives, Machine, Store, Book, dropped, entered, Turn, goes-on}
+use Rattle.machine.specs.Walk.{stops, firstBadJump, seen, turn}
 use Rattle.answer.proofs.Apart.{zero≢one}
 use Rattle.machine.proofs.Lists.{∈-cases}
 use Rattle.machine.proofs.Agree.{agree-refl, agree-true, agree-false}

@@ -9,8 +9,7 @@ use lib.ListN.{length}
 use Rattle.machine.specs.Lists.{_∈_, here, there}
 use Rattle.answer.specs.Depths.{Item}
 use Rattle.answer.specs.declared.Depths.{Depths}
-use Rattle.machine.specs.Machine.{Machine, fallTo}
-use Rattle.machine.specs.Walk.{push}
+use Rattle.machine.specs.Walk.{Machine, fallTo, push}
 use Rattle.machine.proofs.Lists.{∉-nil}
 use Rattle.machine.proofs.Laws.{Passes}
 use Rattle.machine.proofs.Paths.{edges, edges-are}

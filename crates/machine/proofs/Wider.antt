@@ -7,8 +7,7 @@ use Prim.Native.Nat.{ℕ, zero, suc, _≤_}
 use native.Mathlib.Omega.{arith}
 use Rattle.answer.specs.Depths.{Item}
 use Rattle.answer.specs.declared.Depths.{Depths}
-use Rattle.machine.specs.Machine.{Ruling, gives, Machine}
-use Rattle.machine.specs.Walk.{Store, Book, Turn, accepted, seen, run, log}
+use Rattle.machine.specs.Walk.{Ruling, gives, Machine, Store, Book, Turn, run, accepted, seen, log}
 use Rattle.answer.proofs.Apart.{zero≢one}
 use Rattle.machine.proofs.Turn.{Again, Enters, Taken, again, enters, refuses, taken-so}
 use Rattle.machine.proofs.Run.{run-goes-on, run-stops}

@@ -1,4 +1,3 @@
 -- The definitions that contracts and laws cite.
 pub mod Lists
-pub mod Machine
 pub mod Walk

@@ -25,7 +25,7 @@ use Rattle.machine.specs.Lists.{sumOf}
 use Rattle.rules.proofs.Arms.{arms-length}
 use Rattle.answer.proofs.Apart.{zero≢one}
 use Rattle.rules.proofs.Targets.{length-cond}
-use Rattle.opening.specs.declared.Listed.{Listed}
+use Rattle.opening.specs.declared.Tally.{Tally}
 use Rattle.opening.specs.Listing.{targetsAt, fallAt, OneListed, fronted, opening, EntryStored, keepAll, AllListed}
 use Rattle.opening.specs.Ready.{Listable}
 use Rattle.demand.specs.Span.{InCode}
@@ -50,7 +50,7 @@ module _ (code switches cases ranges : List ℕ) where
 
   module _ (entry end words : ℕ) where
     -- up to a place. The last two keep the sums far below 2^64: an instruction has at least a byte.
-    pub record Kept (records : List ℕ) (listed : Listed) (at : ℕ) : Type 0 where
+    pub record Kept (records : List ℕ) (listed : Tally) (at : ℕ) : Type 0 where
       pub front : List ℕ
       pub holds : records ≡ fronted words front
       pub stored : listed .stored ≡ length front
@@ -63,10 +63,10 @@ module _ (code switches cases ranges : List ℕ) where
       pub few-targets : listed .targets ≤ at * maxTargets
       pub few-edges : listed .edges ≤ at * (maxTargets + 1)
 
-    pub kept-length : {records : List ℕ} {listed : Listed} {at : ℕ} → Kept records listed at → length records ≡ words
+    pub kept-length : {records : List ℕ} {listed : Tally} {at : ℕ} → Kept records listed at → length records ≡ words
     kept-length k = ap length (k .holds) ∙ length-fronted words (k .front) (k .fits)
 
-    pub all-kept : {lent : ℕ} {records : List ℕ} {listed : Listed} {at : ℕ} → length code ≤ maxCode → words ≡ lent
+    pub all-kept : {lent : ℕ} {records : List ℕ} {listed : Tally} {at : ℕ} → length code ≤ maxCode → words ≡ lent
         → Kept records listed at → end ≤ at → AllListed code switches cases ranges entry end lent listed records
     unfolding sumOf keepAll
     all-kept {at = at} small same k h = rw (← same) (record {
@@ -130,7 +130,7 @@ module _ (code switches cases ranges : List ℕ) where
       })
 
       -- after one instruction more
-      pub next-kept : (words w : ℕ) {records records′ : List ℕ} {listed r : Listed} {at : ℕ} → Kept entry end words records listed at → at < end
+      pub next-kept : (words w : ℕ) {records records′ : List ℕ} {listed r : Tally} {at : ℕ} → Kept entry end words records listed at → at < end
           → OneListed (targetsAt code switches cases ranges at) (fallAt code switches cases ranges at) listed records r records′
           → w ≡ widthOf (tagAt code at) → Kept entry end words records′ r (at + w)
       unfolding sumOf keepAll

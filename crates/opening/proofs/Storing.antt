@@ -8,7 +8,7 @@ use borrow.Author.Tests.{le-leb, lt-leb}
 use lib.Dec.{leb}
 use lib.ListN.{length, getD, set, drop, replicate, length-set, drop-of-length-le}
 use lib.Seq.{drop-cons, sets}
-use Rattle.opening.specs.declared.Listed.{Listed}
+use Rattle.opening.specs.declared.Tally.{Tally}
 use Rattle.opening.specs.Listing.{OneListed, fronted, opening, EntryStored}
 
 module _ (ts : List ℕ) (from : ℕ) (before : List ℕ) where
@@ -44,7 +44,7 @@ pub at-most-one : (b : Bool) → _≤_ (cond b 1 0) 1
 at-most-one true = omega arith
 at-most-one false = omega arith
 
-module _ (ts : List ℕ) (fall : ℕ) (before : Listed) (records : List ℕ) (count edges : ℕ) (c : count ≡ length ts) (e : edges ≡ length ts + fall) where
+module _ (ts : List ℕ) (fall : ℕ) (before : Tally) (records : List ℕ) (count edges : ℕ) (c : count ≡ length ts) (e : edges ≡ length ts + fall) where
   pub listed-without : length records < before .stored + length ts
       → OneListed ts fall before records (record { targets = before .targets + count; edges = before .edges + edges; stored = before .stored }) records
   listed-without h =

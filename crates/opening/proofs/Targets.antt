@@ -12,10 +12,10 @@ use Rattle.code.specs.Layout.{among}
 use Rattle.code.proofs.Among.{among-member, member-among}
 use Rattle.order.specs.Order.{Rising, below}
 use Rattle.order.proofs.Laws.{rises, all-there, no-other, no-longer, found, found-in}
-use Rattle.demand.specs.Span.{T, E, chunkStarts, Span}
+use Rattle.demand.specs.Span.{Span, chunkStarts, T, E}
 use Rattle.rules.specs.Edges.{degree, targets}
 use Rattle.machine.specs.Lists.{sumOf}
-use Rattle.demand.specs.Rule.{allTargets}
+use Rattle.demand.specs.Chunk.{allTargets}
 use Rattle.rules.specs.Script.{Script}
 use Rattle.opening.specs.Listing.{keepAll, opening}
 use Rattle.opening.specs.Records.{named, keys}

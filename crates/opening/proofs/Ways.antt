@@ -11,10 +11,10 @@ use Rattle.order.proofs.Laws.{no-longer}
 use Rattle.answer.specs.Answer.{unless}
 use Rattle.demand.specs.Chunk.{spanTest, roomTest, openTest}
 use Rattle.answer.specs.declared.Answer.{Answer}
-use Rattle.demand.specs.Span.{T, E, chunkStarts, Span, InCode}
+use Rattle.demand.specs.Span.{Span, InCode, chunkStarts, T, E}
 use Rattle.rules.specs.Edges.{degree}
 use Rattle.rules.specs.Script.{Script}
-use Rattle.opening.specs.declared.Listed.{Listed}
+use Rattle.opening.specs.declared.Tally.{Tally}
 use Rattle.opening.specs.Listing.{fronted, opening, keepAll, AllListed}
 use Rattle.opening.specs.Opens.{KeysLaid, Refuses, Readies}
 use Rattle.opening.specs.Records.{named, keys, laid}
@@ -51,7 +51,7 @@ module _ (S : Script) (span : Span) where
   unfolding openTest unless
   refused-by-span records work e r w = record { tested = rw e; records-cleared = r; work-cleared = w }
 
-  module _ {lent : ℕ} {listed : Listed} {records : List ℕ}
+  module _ {lent : ℕ} {listed : Tally} {records : List ℕ}
       (A : AllListed (S .code) (S .pools .switches) (S .pools .cases) (S .pools .ranges) (span .entry) (span .end) lent listed records) where
     abbrev front : List ℕ
     front = keepAll (S .code) (S .pools .switches) (S .pools .cases) (S .pools .ranges) lent (opening lent (span .entry)) (chunkStarts S span)

@@ -13,7 +13,7 @@ use Rattle.code.specs.Width.{widthOf}
 use Rattle.listing.specs.Starts.{startsBefore}
 use Rattle.machine.specs.Lists.{sumOf}
 use Rattle.rules.specs.Edges.{falls, targetsOf}
-use Rattle.opening.specs.declared.Listed.{Listed}
+use Rattle.opening.specs.declared.Tally.{Tally}
 
 -- do so many words more have room behind those that are kept?
 abbrev pub roomFor : (kept more words : ℕ) → Bool
@@ -21,11 +21,11 @@ roomFor kept more words = leb (kept + more) words
 
 -- one instruction, of so many targets: both counts grow, and its targets are stored behind the others where all of them
 -- fit
-module _ (targets : List ℕ) (fall : ℕ) (before : Listed) (records : List ℕ) where
+module _ (targets : List ℕ) (fall : ℕ) (before : Tally) (records : List ℕ) where
   abbrev allFit : Bool
   allFit = roomFor (before .stored) (length targets) (length records)
 
-  pub record OneListed (r : Listed) (records′ : List ℕ) : Type 0 where
+  pub record OneListed (r : Tally) (records′ : List ℕ) : Type 0 where
     pub targets-counted : r .targets ≡ before .targets + length targets
     pub edges-counted : r .edges ≡ before .edges + (length targets + fall)
     pub stored : r .stored ≡ cond allFit (before .stored + length targets) (before .stored)
@@ -57,7 +57,7 @@ module _ (code switches cases ranges : List ℕ) where
       keepAll words (cond (roomFor (length kept) (length (targetsAt p)) words) (kept ++ targetsAt p) kept) ps
 
   -- all instructions from an entry to an end, and far fewer targets and edges than 64 bits can count
-  pub record AllListed (entry end words : ℕ) (r : Listed) (records′ : List ℕ) : Type 0 where
+  pub record AllListed (entry end words : ℕ) (r : Tally) (records′ : List ℕ) : Type 0 where
     pub targets-counted : r .targets ≡ sumOf (λ p. length (targetsAt p)) (startsBefore widthOf code end entry)
     pub edges-counted : r .edges ≡ sumOf (λ p. length (targetsAt p) + fallAt p) (startsBefore widthOf code end entry)
     pub stored : r .stored ≡ length (keepAll words (opening words entry) (startsBefore widthOf code end entry))

@@ -6,13 +6,12 @@ use mathlib.Core.Option.{some}
 use mathlib.Core.Path.{_≡_}
 use Prim.Native.Nat.{ℕ, _+_, _*_, _≤_}
 use lib.ListN.{length, take, replicate}
-use Rattle.answer.specs.Answer.{Answer}
+use Rattle.answer.specs.declared.Answer.{Answer}
 use Rattle.demand.specs.Chunk.{openTest}
-use Rattle.demand.specs.Span.{T, E, Span, InCode}
+use Rattle.demand.specs.Span.{Span, InCode, T, E}
 use Rattle.order.specs.Order.{inOrder}
 use Rattle.rules.specs.Script.{Script}
 use Rattle.opening.specs.declared.Opened.{Opened}
-use Rattle.opening.specs.declared.Opened.the-variants.{Ready, Refused}
 use Rattle.opening.specs.declared.Room.{Room}
 use Rattle.opening.specs.Listing.{fronted}
 use Rattle.opening.specs.Records.{keys, laid}
@@ -42,5 +41,5 @@ module _ (S : Script) (span : Span) (lent-records lent-work : ℕ) where
     pub work-cleared : work′ ≡ replicate lent-work 0
 
   abbrev pub OpenedAs : Opened → (records′ work′ : List ℕ) → Type 0
-  OpenedAs (Ready room) records′ work′ = Readies room records′ work′
-  OpenedAs (Refused answer) records′ work′ = Refuses answer records′ work′
+  OpenedAs (Opened.Ready room) records′ work′ = Readies room records′ work′
+  OpenedAs (Opened.Refused answer) records′ work′ = Refuses answer records′ work′

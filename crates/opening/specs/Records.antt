@@ -4,8 +4,8 @@
 use mathlib.Core.List.{List, _∷_, _++_}
 use Prim.Native.Nat.{ℕ, _-_}
 use lib.ListN.{length, replicate}
-use Rattle.demand.specs.Rule.{allTargets}
-use Rattle.demand.specs.Span.{chunkStarts, Span}
+use Rattle.demand.specs.Chunk.{allTargets}
+use Rattle.demand.specs.Span.{Span, chunkStarts}
 use Rattle.order.specs.Order.{inOrder}
 use Rattle.rules.specs.Script.{Script}
 

@@ -42,7 +42,7 @@ pub enum Opened {
 
 // What the instructions listed so far come to: their targets, repeats counted; their edges; and how many words of
 // records are in use, the entry first.
-pub struct Listed {
+pub struct Tally {
     pub targets: u64,
     pub edges: u64,
     pub stored: usize,
@@ -82,9 +82,9 @@ pub fn list_instruction(
     switches: &[u32],
     cases: &[u32],
     ranges: &[u32],
-    before: Listed,
+    before: Tally,
     records: &mut [u32],
-) -> Listed
+) -> Tally
     requires { ⌜ Shape (tagAt (now code) at) word ⌝ }
     requires { ⌜ 0 < widthAt (now code) at ⌝ }
     requires { ⌜ SwitchThere (now code) (now switches) (now cases) (now ranges) at ⌝ }
@@ -102,7 +102,7 @@ pub fn list_instruction(
     let stored = before.stored;
     let left = records.len() - stored;
     if (left as u64) < count {
-        return Listed {
+        return Tally {
             targets: before.targets + count,
             edges: before.edges + edges,
             stored,
@@ -110,7 +110,7 @@ pub fn list_instruction(
     }
     let more = count as usize;
     store_targets(code, at, switches, cases, ranges, more, stored, records);
-    Listed {
+    Tally {
         targets: before.targets + count,
         edges: before.edges + edges,
         stored: stored + more,
@@ -138,14 +138,14 @@ pub fn list_chunk(
     cases: &[u32],
     ranges: &[u32],
     records: &mut [u32],
-) -> Listed
+) -> Tally
     requires { ⌜ Listable (now code) (now switches) (now cases) (now ranges) ⌝ }
     requires { ⌜ InCode (now code) entry end ⌝ }
     requires { ⌜ now records ≡ replicate (length (now records)) 0 ⌝ }
     ensures { λ r. ⌜ AllListed (now (code .entry)) (now (switches .entry)) (now (cases .entry)) (now (ranges .entry))
         entry end (length (now (records .entry))) r (now (records .exit)) ⌝ }
 {
-    let mut listed = Listed {
+    let mut listed = Tally {
         targets: 0,
         edges: 0,
         stored: store_entry(entry, records),

@@ -3,7 +3,7 @@ use mathlib.Core.List.{List}
 use mathlib.Core.Path.{_≡_}
 use Prim.Native.Nat.{ℕ}
 use lib.ListN.{length}
-use Rattle.answer.specs.Answer.{Verdict}
+use Rattle.answer.specs.declared.verdict.Verdict.{Verdict}
 use Rattle.before.specs.Calls.{beforeChunks, verdictOf, marksAfter}
 use Rattle.before.specs.Input.{Input}
 

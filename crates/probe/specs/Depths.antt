@@ -4,7 +4,7 @@ use mathlib.Core.Bool.{Bool, _&&_, cond}
 use mathlib.Core.Path.{_≡_}
 use Prim.Native.Nat.{ℕ, _+_, _-_, _^_}
 use lib.Dec.{leb, ltb}
-use Rattle.answer.specs.Depths.{Depths}
+use Rattle.answer.specs.declared.Depths.{Depths}
 use Rattle.rules.specs.Edges.{falls, plain, afterOf, jumpedOf}
 use Rattle.rules.specs.Needs.{iteratorsNeeded, handlersNeeded}
 use Rattle.probe.specs.declared.depths.DepthsTold.{DepthsTold}

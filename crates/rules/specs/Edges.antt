@@ -7,7 +7,8 @@ use mathlib.Core.List.{List, [], _∷_, _++_, map}
 use Prim.Native.Nat.{ℕ, _+_, _-_}
 use lib.Dec.{eqb}
 use lib.ListN.{length}
-use Rattle.answer.specs.Depths.{Depths, Item}
+use Rattle.answer.specs.declared.Depths.{Depths}
+use Rattle.answer.specs.Depths.{Item}
 use Rattle.code.specs.Layout.{among, tagAt, indexAt, targetAt}
 use Rattle.code.specs.Tags.{RETURN, THROW, ITER-INIT, ITER-DROP, POP-HANDLER, SWITCH, JUMP, SKIP-IF-NOT-UNIT, jumpIfs}
 use Rattle.code.specs.Tags.{Tag, byte, bytes, iterNexts, pushHandlers}

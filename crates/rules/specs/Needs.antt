@@ -6,7 +6,7 @@ use mathlib.Core.List.{_∷_}
 use mathlib.Core.Path.{_≡_}
 use Prim.Native.Nat.{ℕ, _≤_}
 use lib.Dec.{eqb}
-use Rattle.answer.specs.Depths.{Depths}
+use Rattle.answer.specs.declared.Depths.{Depths}
 use Rattle.code.specs.Layout.{among}
 use Rattle.code.specs.Tags.{byte, bytes, ITER-DROP, POP-HANDLER, iterNexts}
 use Rattle.rules.specs.Effects.{needs}
@@ -20,9 +20,16 @@ iteratorsNeeded tag = cond (among tag (bytes (ITER-DROP ∷ iterNexts))) 1 0
 unfoldable pub handlersNeeded : ℕ → ℕ
 handlersNeeded tag = cond (eqb tag (byte POP-HANDLER)) 1 0
 
--- the instruction at a place has the rights and the depths that it needs
-pub record Able (S : Script) (p : ℕ) (d : Depths) : Type 0 where
-  pub rights : lacking (required (S .code) (S .pools .names) (S .pools .chains) (S .pools .steps) p) (S .rights) ≡ 0
-  pub operands : needs (S .code) (S .pools .chains) p ≤ d .operands
-  pub iterators : iteratorsNeeded (tagOf S p) ≤ d .iterators
-  pub handlers : handlersNeeded (tagOf S p) ≤ d .handlers
+-- of the instruction at a place: the rights that it lacks, the operands that it needs, and that it has all it needs
+module _ (S : Script) (p : ℕ) where
+  abbrev pub lacks : ℕ
+  lacks = lacking (required (S .code) (S .pools .names) (S .pools .chains) (S .pools .steps) p) (S .rights)
+
+  abbrev pub operandsNeeded : ℕ
+  operandsNeeded = needs (S .code) (S .pools .chains) p
+
+  pub record Able (d : Depths) : Type 0 where
+    pub rights : lacks ≡ 0
+    pub operands : operandsNeeded ≤ d .operands
+    pub iterators : iteratorsNeeded (tagOf S p) ≤ d .iterators
+    pub handlers : handlersNeeded (tagOf S p) ≤ d .handlers

@@ -6,7 +6,7 @@ use mathlib.Core.List.{List}
 use mathlib.Core.Path.{_≡_}
 use Prim.Native.Nat.{ℕ, _+_, _^_, _≤_, _<_}
 use lib.ListN.{length}
-use Rattle.answer.specs.Depths.{Depths}
+use Rattle.answer.specs.declared.Depths.{Depths}
 use Rattle.code.specs.Layout.{among, tagAt, indexAt}
 use Rattle.code.specs.Tags.{byte, bytes, CHAIN, SWITCH}
 use Rattle.pools.specs.Good.{StepsWithin, CasesWithin, RangesWithin}

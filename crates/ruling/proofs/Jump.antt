@@ -10,7 +10,7 @@ use Rattle.listing.specs.Starts.{starts}
 use Rattle.listing.proofs.Marked.{told-by-marks}
 use Rattle.marks.specs.Places.{Holds, bitAt, isOne}
 use Rattle.answer.specs.declared.Answer.the-variants.{JumpOutOfRange, JumpIntoAnInstruction}
-use Rattle.demand.specs.Rule.{judge}
+use Rattle.demand.specs.Chunk.{judge}
 use Rattle.rules.specs.Script.{Script}
 use Rattle.demand.specs.Span.{Span}
 use Rattle.answer.proofs.Apart.{zero≢one}

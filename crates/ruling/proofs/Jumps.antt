@@ -13,7 +13,7 @@ use Rattle.marks.specs.Places.{Holds}
 use Rattle.answer.specs.declared.Answer.{Answer}
 use Rattle.answer.specs.declared.Depths.{Depths}
 use Rattle.answer.specs.Depths.{Item}
-use Rattle.demand.specs.Rule.{judge}
+use Rattle.demand.specs.Chunk.{judge}
 use Rattle.rules.specs.Script.{Script}
 use Rattle.demand.specs.Span.{Span}
 use Rattle.machine.specs.Walk.{firstBadJump}

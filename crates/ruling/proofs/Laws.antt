@@ -7,8 +7,8 @@ use Prim.Native.Nat.{ℕ}
 use Rattle.answer.specs.declared.Answer.{Answer}
 use Rattle.answer.specs.declared.Depths.{Depths}
 use Rattle.rules.specs.Edges.{falls, targets, after, jumped}
-use Rattle.machine.specs.Machine as machine
-use Rattle.demand.specs.Rule.{rule}
+use Rattle.machine.specs.Walk as machine
+use Rattle.demand.specs.Chunk.{rule}
 use Rattle.rules.specs.Script.{Script, tagOf}
 use Rattle.demand.specs.Span.{Span}
 use Rattle.answer.proofs.Apart.{zero≢one}

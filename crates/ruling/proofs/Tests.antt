@@ -20,10 +20,9 @@ use Rattle.answer.specs.declared.Depths.{Depths}
 use Rattle.rules.specs.declared.Effect.{Effect}
 use Rattle.rules.specs.Edges.{falls, plain, after, afterOf, jumpedOf, next}
 use Rattle.rules.specs.Effects.{pops, pushes}
-use Rattle.machine.specs.Machine as machine
-use Rattle.rules.specs.Needs.{iteratorsNeeded, handlersNeeded}
-use Rattle.rules.specs.Rights.{required, lacking}
-use Rattle.demand.specs.Rule.{needsTest, rule}
+use Rattle.machine.specs.Walk as machine
+use Rattle.rules.specs.Needs.{iteratorsNeeded, handlersNeeded, lacks as lacksAt, operandsNeeded}
+use Rattle.demand.specs.Chunk.{needsTest, rule}
 use Rattle.rules.specs.Script.{Script, tagOf}
 use Rattle.demand.specs.Span.{Span}
 use Rattle.rules.specs.Shapes.{Flow}
@@ -167,7 +166,7 @@ module _ (S : Script) (span : Span) (p : ℕ) (d : Depths) where
 
   -- the rule tests what it needs, and then says the rest
   abbrev tested : Option Answer
-  tested = needsTest (says.lacks S span p d) (tagOf S p) (says.need S span p d) p d
+  tested = needsTest (lacksAt S p) (tagOf S p) (operandsNeeded S p) p d
 
   in-order : ruled S span p d ≡ unless Denies tested rest
   unfolding ruled answers rule leaving unless
@@ -185,7 +184,7 @@ module _ (S : Script) (span : Span) (p : ℕ) (d : Depths) where
 
   -- so it says what the code settles
   pub rule-settled : {missing w : ℕ} {effect : Effect}
-      → missing ≡ lacking (required (S .code) (S .pools .names) (S .pools .chains) (S .pools .steps) p) (S .rights)
+      → missing ≡ lacksAt S p
       → Acts (S .code) (S .pools .chains) p effect → 0 < widthAt (S .code) p → w ≡ widthOf (tagOf S p)
       → {r : Ruling} → r ≡ settled missing (tagOf S p) effect p (p + w) (span .end) d → r ≡ ruled S span p d
   unfolding next

@@ -7,11 +7,12 @@ use mathlib.Core.List.{List}
 use mathlib.Core.Option.{Option, none, some}
 use Prim.Native.Nat.{ℕ, _+_, _^_, _≤_, _<_}
 use lib.Dec.{ltb, leb}
-use Rattle.answer.specs.Answer.{unless, Answer, JumpOutOfRange, JumpIntoAnInstruction, FallsOffTheEnd}
-use Rattle.answer.specs.Depths.{Depths}
-use Rattle.demand.specs.Rule.{needsTest, rule}
+use Rattle.answer.specs.Answer.{unless}
+use Rattle.answer.specs.declared.Answer.{Answer}
+use Rattle.answer.specs.declared.Depths.{Depths}
+use Rattle.demand.specs.Chunk.{needsTest, rule}
 use Rattle.demand.specs.Span.{Span}
-use Rattle.machine.specs.Machine as machine
+use Rattle.machine.specs.Walk as machine
 use Rattle.marks.specs.Places.{bitAt, isOne}
 use Rattle.rules.specs.declared.Effect.{Effect}
 use Rattle.rules.specs.Edges.{falls, plain, afterOf, jumpedOf, after, jumped, next}
@@ -19,7 +20,6 @@ use Rattle.rules.specs.Script.{Script, tagOf}
 use Rattle.rules.specs.Shapes.{Flow}
 use Rattle.ruling.specs.declared.Edges.{Edges}
 use Rattle.ruling.specs.declared.Ruling.{Ruling}
-use Rattle.ruling.specs.declared.Ruling.the-variants.{Denies, Gives}
 
 -- ---- an instruction, in numbers
 
@@ -35,12 +35,14 @@ edgesFrom tag pops pushes next d = record {
 -- 13 where it is plain and the place after it is not before the end; else the edges
 unfoldable pub leaving : (tag pops pushes next end : ℕ) → Depths → Ruling
 leaving tag pops pushes next end d =
-    cond (plain tag && leb end next) (Denies FallsOffTheEnd) (Gives (edgesFrom tag pops pushes next d))
+    cond (plain tag && leb end next) (Ruling.Denies Answer.FallsOffTheEnd)
+    (Ruling.Gives (edgesFrom tag pops pushes next d))
 
 -- the tests of its needs, then the way on, of an instruction of a tag with this effect
 abbrev pub settled : (lacks tag : ℕ) → Effect → (at next end : ℕ) → Depths → Ruling
 settled lacks tag effect at next end d =
-    unless Denies (needsTest lacks tag (effect .needs) at d) (leaving tag (effect .pops) (effect .pushes) next end d)
+    unless Ruling.Denies (needsTest lacks tag (effect .needs) at d)
+    (leaving tag (effect .pops) (effect .pushes) next end d)
 
 -- what settling builds on: a tag of this flow, an effect that pops what is needed at most and pushes one at most, and
 -- depths of which one more fits a word of 32 bits
@@ -56,15 +58,15 @@ pub record Settles (flow : ℕ) (effect : Effect) (d : Depths) : Type 0 where
 -- 9, then 10, of a jump, where a bit of the marks tells a start
 unfoldable pub jumpTest : (marks : List ℕ) (entry end at target : ℕ) → Option Answer
 jumpTest marks entry end at target =
-    cond (ltb target entry || leb end target) (some (JumpOutOfRange at target))
-    (cond (isOne (bitAt marks target)) none (some (JumpIntoAnInstruction at target)))
+    cond (ltb target entry || leb end target) (some (Answer.JumpOutOfRange at target))
+    (cond (isOne (bitAt marks target)) none (some (Answer.JumpIntoAnInstruction at target)))
 
 -- ---- the rule's answer
 
 -- a denial as it is, and what the rule gives as edges
 unfoldable pub answers : machine.Ruling Answer → Edges → Ruling
-answers (machine.denies answer) edges = Denies answer
-answers (machine.gives post fall jumps) edges = Gives edges
+answers (machine.denies answer) edges = Ruling.Denies answer
+answers (machine.gives post fall jumps) edges = Ruling.Gives edges
 
 -- the edges of the instruction at a place
 abbrev pub edgesOf : Script → ℕ → Depths → Edges

@@ -14,7 +14,7 @@ ghost use Rattle.marks.specs.Places.{Holds};
 ghost use Rattle.pools.specs.Sizes.{maxCode};
 ghost use Rattle.answer.specs.declared.Depths.{Depths};
 ghost use Rattle.rules.specs.Edges.{targetsOf};
-ghost use Rattle.demand.specs.Rule.{needsTest, judge};
+ghost use Rattle.demand.specs.Chunk.{needsTest, judge};
 ghost use Rattle.rules.specs.Shapes.{Shape, Flow};
 ghost use Rattle.rules.specs.There.{NameThere, ChainThere, SwitchThere, HeldBy};
 ghost use Rattle.machine.specs.Walk.{firstBadJump};

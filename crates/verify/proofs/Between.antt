@@ -33,10 +33,10 @@ use Rattle.judging.specs.declared.Judgement.the-variants.{Passed as AllPass, Re
 use Rattle.verify.specs.declared.stages.State.{State}
 use Rattle.verify.specs.declared.stages.State.the-variants.{Going, Ended}
 use Rattle.verify.specs.Call.{Memory, marksOn, Calls}
-use Rattle.verify.specs.Stages.{BothClear, opened, wordsOn, Begins, advanced, marksThen, Advances, Fits, Few}
+use Rattle.verify.specs.Stages.{opened, wordsOn, BothClear, Begins, advanced, marksThen, Advances, Fits, Few}
 use Rattle.verify.specs.Stages.{ReadyForChunk, Takes, goesOn, finished}
 use Rattle.judging.specs.Judging.{JudgedAll, judgeAll}
-use Rattle.judging.specs.Judges.{Judges, mostTaken, mostReached}
+use Rattle.judging.specs.Judges.{Judges, mostReached, mostTaken}
 use Rattle.judging.proofs.Chain.{judge-passes, judge-fails, judge-none, Judging, judging-first, judging-done}
 use Rattle.judging.proofs.Chain.{judging-fails, judging-passes}
 use Rattle.verify.proofs.Small.{small}

@@ -18,15 +18,14 @@ use Rattle.code.specs.Width.{widthOf}
 use Rattle.code.proofs.Among.{among-member, member-among}
 use Rattle.listing.specs.Starts.{Start, starts}
 use Rattle.listing.proofs.Starts.{listed-start, start-listed}
-use Rattle.demand.specs.Span.{InCode, T, E, Span}
+use Rattle.demand.specs.Span.{Span, InCode, T, E}
 use Rattle.opening.proofs.Tests.{span-exactly, room-exactly}
 use Rattle.answer.specs.Answer.{numbered, unless}
 use Rattle.demand.specs.Chunk.{spanTest, roomTest, openTest, Judged, passes, fails, judgeChunk}
 use Rattle.demand.specs.BeforeWalk.{BeforeWalk}
 use Rattle.rules.specs.Edges.{degree}
 use Rattle.machine.specs.Lists.{sumOf}
-use Rattle.demand.specs.Writing.{Measures, Writing}
-use Rattle.demand.specs.Refusals.{Real, Exceeds}
+use Rattle.demand.specs.Writing.{Writing, Measures, Real, Exceeds}
 use Rattle.rules.specs.Script.{Script}
 use Rattle.answer.specs.declared.Answer.{Answer}
 use Rattle.answer.specs.declared.Answer.the-variants.{NoRoom, ChunkOutOfRange, Misaligned}

@@ -4,17 +4,16 @@ use Prim.Native.Nat.{ℕ, _+_, _≤_}
 use native.Mathlib.Omega.{arith}
 use Rattle.opening.specs.Ready.{Ready}
 use Rattle.pools.proofs.Most.{code-small, room-small}
-use Rattle.demand.specs.Chunk.{passes, walked, judgeChunk}
+use Rattle.demand.specs.Chunk.{machine, passes, walked, judgeChunk}
 use Rattle.demand.specs.BeforeWalk.{BeforeWalk}
-use Rattle.demand.specs.Span.{E, Span}
-use Rattle.demand.specs.Rule.{machine}
+use Rattle.demand.specs.Span.{Span, E}
 use Rattle.rules.specs.Script.{Script}
 use Rattle.demand.proofs.Demand.{fails-by, passes-to, Height, above, within, within-or-above, Told, accepts, refuses}
 use Rattle.demand.proofs.Demand.{walk-told, judged-walks, few-instructions}
 use Rattle.machine.proofs.Ends.{accepted-bounded}
 use Rattle.demand.proofs.Keeps.{keeps-laws}
 use Rattle.answer.proofs.Apart.{zero≢one}
-use Rattle.judging.specs.Judges.{mostTaken, mostReached}
+use Rattle.judging.specs.Judges.{mostReached, mostTaken}
 use Rattle.verify.proofs.Chunks.{passes-opens}
 use Rattle.judging.proofs.Walking.{few-edges}
 

@@ -20,8 +20,8 @@ use Rattle.listing.proofs.WalkLaws.{from-end}
 use Rattle.pools.specs.declared.limits.Sizes.{Sizes}
 use Rattle.pools.specs.Sizes.{firstExceeded}
 use Rattle.pools.specs.Tables.{firstBadTable}
-use Rattle.demand.specs.Refusals.{Real, lacks-rights, leaves, splits, disagrees, underflows, runs-off, no-iterator}
-use Rattle.demand.specs.Refusals.{no-handler, Exceeds}
+use Rattle.demand.specs.Writing.{Real, lacks-rights, leaves, splits, disagrees, underflows, runs-off, no-iterator}
+use Rattle.demand.specs.Writing.{no-handler, Exceeds}
 use Rattle.rules.specs.Rights.{lacking}
 use Rattle.rules.specs.Script.{Script}
 use Rattle.demand.specs.Span.{Span}

@@ -8,7 +8,7 @@ use Rattle.code.specs.Layout.{among}
 use Rattle.listing.specs.Starts.{starts}
 use Rattle.pools.proofs.TableLaws.{chains-within, switches-within}
 use Rattle.demand.specs.BeforeWalk.{BeforeWalk}
-use Rattle.demand.specs.Span.{T, E, Span}
+use Rattle.demand.specs.Span.{Span, T, E}
 use Rattle.before.specs.Input.{Input}
 use Rattle.before.proofs.Established.{Established, chain-there, switch-there}
 

@@ -21,7 +21,7 @@ use Rattle.pools.proofs.LimitLaws.{code-kept, cases-kept, ranges-kept}
 use Rattle.pools.proofs.Most.{code-small}
 use Rattle.pools.proofs.TableLaws.{chains-within, switches-within}
 use Rattle.answer.specs.Answer.{noChunk, numbered, told}
-use Rattle.demand.specs.Chunk.{openTest, passes, fails, measured, judgeChunk, walked}
+use Rattle.demand.specs.Chunk.{allTargets, rule, judge, machine, openTest, passes, fails, measured, walked, judgeChunk}
 use Rattle.demand.specs.Chunk as chunk
 use Rattle.answer.specs.declared.Answer.{Answer}
 use Rattle.answer.specs.declared.Answer.the-variants.{Accepted}
@@ -29,11 +29,9 @@ use Rattle.answer.specs.declared.Outcome.{Outcome}
 use Rattle.answer.specs.declared.Outcome.the-variants.{Passed, Refused}
 use Rattle.answer.specs.declared.verdict.Verdict.{Verdict}
 use Rattle.code.specs.Layout.{among}
-use Rattle.demand.specs.Span.{T, E, chunkStarts, Span}
+use Rattle.demand.specs.Span.{Span, chunkStarts, T, E}
 use Rattle.rules.specs.Edges.{degree, next, targets}
-use Rattle.machine.specs.Machine.{Machine}
-use Rattle.demand.specs.Rule.{rule, judge, allTargets, machine}
-use Rattle.machine.specs.Walk.{walk, log}
+use Rattle.machine.specs.Walk.{Machine, walk, log}
 use Rattle.rules.specs.Script.{Script}
 use Rattle.rules.specs.FromLists.{script}
 use Rattle.answer.proofs.Apart.{zero≢one}

@@ -6,9 +6,9 @@ use mathlib.Core.List.{List}
 use mathlib.Core.Path.{_≡_}
 use Prim.Native.Nat.{ℕ, zero, suc, _+_, _≤_, _<_}
 use lib.ListN.{length, getD}
-use Rattle.answer.specs.Answer.{Verdict}
+use Rattle.answer.specs.declared.verdict.Verdict.{Verdict}
 use Rattle.demand.specs.Span.{Span, chunkAt}
-use Rattle.demand.specs.Writing.{Measures, Writing}
+use Rattle.demand.specs.Writing.{Writing, Measures}
 use Rattle.listing.specs.Starts.{starts}
 use Rattle.rules.specs.Script.{Script}
 

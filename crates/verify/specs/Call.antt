@@ -7,11 +7,14 @@ use mathlib.Core.Option.{none, some}
 use mathlib.Core.Path.{_≡_}
 use Prim.Native.Nat.{ℕ}
 use lib.ListN.{length, replicate}
-use Rattle.answer.specs.Answer.{noChunk, numbered, Accepted, Verdict}
+use Rattle.answer.specs.Answer.{noChunk, numbered}
+use Rattle.answer.specs.declared.Answer.{Answer}
+use Rattle.answer.specs.declared.verdict.Verdict.{Verdict}
 use Rattle.before.specs.Before.{Test, beforeStores, afterStores, marksOf}
 use Rattle.before.specs.Input.{Input}
 use Rattle.demand.specs.Span.{Span}
-use Rattle.judging.specs.Judging.{Judgement, Passed, Refused, JudgedAll, judgeAll}
+use Rattle.judging.specs.declared.Judgement.{Judgement}
+use Rattle.judging.specs.Judging.{JudgedAll, judgeAll}
 use Rattle.marks.specs.Marks.{total}
 use Rattle.verify.specs.Accounts.{Accounted}
 
@@ -29,12 +32,12 @@ pub record Result : Type 0 where
 
 -- the verdict on judged chunks, with the ones in the marks counted, and what marks hold with it
 unfoldable pub verdictOn : Judgement → (marks : List ℕ) → Verdict
-verdictOn (Passed reached taken) marks = numbered noChunk (Accepted (total marks) reached taken)
-verdictOn (Refused chunk a) marks = numbered chunk a
+verdictOn (Judgement.Passed reached taken) marks = numbered noChunk (Answer.Accepted (total marks) reached taken)
+verdictOn (Judgement.Refused chunk a) marks = numbered chunk a
 
 unfoldable pub marksOn : Judgement → (marks : List ℕ) → List ℕ
-marksOn (Passed reached taken) marks = marks
-marksOn (Refused chunk a) marks = replicate (length marks) 0
+marksOn (Judgement.Passed reached taken) marks = marks
+marksOn (Judgement.Refused chunk a) marks = replicate (length marks) 0
 
 module _ (I : Input) (spans : List Span) (before : Memory) where
   -- the memory once there was a store: these marks and heights, and nothing in records and work

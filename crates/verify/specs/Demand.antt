@@ -9,13 +9,14 @@ use mathlib.Core.Option.{none}
 use mathlib.Core.Path.{_≡_}
 use Prim.Native.Nat.{ℕ, _+_, _*_, _≤_, _<_}
 use lib.ListN.{length}
-use Rattle.answer.specs.Answer.{numbered, Answer, NoRoom, ChunkOutOfRange, Misaligned, Verdict}
+use Rattle.answer.specs.Answer.{numbered}
+use Rattle.answer.specs.declared.Answer.{Answer}
+use Rattle.answer.specs.declared.verdict.Verdict.{Verdict}
 use Rattle.before.specs.Before.{beforeStores, afterStores}
 use Rattle.before.specs.Input.{Input}
 use Rattle.code.specs.Width.{widthOf}
-use Rattle.demand.specs.Refusals.{Real, Exceeds}
-use Rattle.demand.specs.Span.{InCode, T, E, Span, chunkAt}
-use Rattle.demand.specs.Writing.{Writing}
+use Rattle.demand.specs.Span.{Span, chunkAt, InCode, T, E}
+use Rattle.demand.specs.Writing.{Writing, Real, Exceeds}
 use Rattle.listing.specs.Starts.{Start}
 use Rattle.rules.specs.Script.{Script}
 use Rattle.verify.specs.Accounts.{Filled}
@@ -38,15 +39,15 @@ module _ (S : Script) (span : Span) (records work : ℕ) where
   pub data Shut : Answer → Type 0 where
     -- 7: it ends before its entry, or past the code
     out-of-range : (span .end < span .entry) ⊎ (length (S .code) < span .end)
-        → Shut (ChunkOutOfRange (span .entry) (span .end))
+        → Shut (Answer.ChunkOutOfRange (span .entry) (span .end))
     -- 8: its entry is neither a start nor the code's length
     misaligned : span .entry ≤ span .end → span .end ≤ length (S .code) → ¬ Start widthOf (S .code) (span .entry)
-        → ¬ (span .entry ≡ length (S .code)) → Shut (Misaligned (span .entry))
+        → ¬ (span .entry ≡ length (S .code)) → Shut (Answer.Misaligned (span .entry))
     -- 3: there is no room for records; or there is, and none for work
     few-records : InCode (S .code) (span .entry) (span .end) → records < 4 * (1 + T S span)
-        → Shut (NoRoom (4 * (1 + T S span)) 3)
+        → Shut (Answer.NoRoom (4 * (1 + T S span)) 3)
     little-work : InCode (S .code) (span .entry) (span .end) → 4 * (1 + T S span) ≤ records → work < 4 * (1 + E S span)
-        → Shut (NoRoom (4 * (1 + E S span)) 4)
+        → Shut (Answer.NoRoom (4 * (1 + E S span)) 4)
 
   -- it opens, and its walk or 14 refuses it: an instruction on its paths really fails that test, or the largest depth
   -- on them is above the declared height

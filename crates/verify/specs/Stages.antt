@@ -9,27 +9,29 @@ use mathlib.Core.Path.{_≡_}
 use Prim.Native.Nat.{ℕ, _+_, _*_, _^_, _≤_, _<_}
 use lib.Dec.{leb, ltb}
 use lib.ListN.{length, replicate}
-use Rattle.answer.specs.Answer.{noChunk, numbered, Accepted, Verdict}
+use Rattle.answer.specs.Answer.{noChunk, numbered}
+use Rattle.answer.specs.declared.Answer.{Answer}
+use Rattle.answer.specs.declared.verdict.Verdict.{Verdict}
 use Rattle.before.specs.Before.{Test}
 use Rattle.before.specs.Calls.{beforeChunks, marksAfter}
 use Rattle.before.specs.Input.{Input}
 use Rattle.demand.specs.Span.{Span}
+use Rattle.judging.specs.declared.Judgement.{Judgement}
 use Rattle.judging.specs.Judges.{mostReached, mostTaken}
-use Rattle.judging.specs.Judging.{Judgement, Passed, Refused, JudgedAll, judgeAll}
+use Rattle.judging.specs.Judging.{JudgedAll, judgeAll}
 use Rattle.marks.specs.Marks.{total}
 use Rattle.opening.specs.Ready.{Ready, Marked}
 use Rattle.pools.specs.Sizes.{maxChunks}
 use Rattle.rules.specs.Script.{Script}
 use Rattle.verify.specs.Call.{marksOn}
 use Rattle.verify.specs.declared.stages.State.{State}
-use Rattle.verify.specs.declared.stages.State.the-variants.{Going, Ended}
 
 -- ---- before the chunks
 
 -- the state after these tests, with so many instructions marked
 unfoldable pub opened : Test → (instructions : ℕ) → State
-opened none instructions = Going instructions 0 0
-opened (some a) instructions = Ended (numbered noChunk a)
+opened none instructions = State.Going instructions 0 0
+opened (some a) instructions = State.Ended (numbered noChunk a)
 
 -- what records or work hold then
 unfoldable pub wordsOn : Test → List ℕ → List ℕ
@@ -53,14 +55,14 @@ module _ (I : Input) (heights : ℕ) (marks records work : List ℕ) where
 
 -- the state after more chunks are judged, and what marks hold then
 unfoldable pub advanced : State → Judgement → State
-advanced (Going instructions reached taken) (Passed more further) =
-    Going instructions (reached + more) (taken + further)
-advanced (Going instructions reached taken) (Refused chunk a) = Ended (numbered chunk a)
-advanced (Ended verdict) judgement = Ended verdict
+advanced (State.Going instructions reached taken) (Judgement.Passed more further) =
+    State.Going instructions (reached + more) (taken + further)
+advanced (State.Going instructions reached taken) (Judgement.Refused chunk a) = State.Ended (numbered chunk a)
+advanced (State.Ended verdict) judgement = State.Ended verdict
 
 unfoldable pub marksThen : State → Judgement → (marks : List ℕ) → List ℕ
-marksThen (Going instructions reached taken) judgement marks = marksOn judgement marks
-marksThen (Ended verdict) judgement marks = marks
+marksThen (State.Going instructions reached taken) judgement marks = marksOn judgement marks
+marksThen (State.Ended verdict) judgement marks = marks
 
 module _ (state : State) (judgement : Judgement) (marks : List ℕ) where
   pub record Advances (r : State) (marks′ : List ℕ) : Type 0 where
@@ -69,14 +71,15 @@ module _ (state : State) (judgement : Judgement) (marks : List ℕ) where
 
 -- the sums fit a `u64`
 unfoldable pub Fits : State → Judgement → Type 0
-Fits (Going instructions reached taken) (Passed more further) = (reached + more < 2 ^ 64) × (taken + further < 2 ^ 64)
-Fits (Going instructions reached taken) (Refused chunk a) = Unit {0}
-Fits (Ended verdict) judgement = Unit {0}
+Fits (State.Going instructions reached taken) (Judgement.Passed more further) =
+    (reached + more < 2 ^ 64) × (taken + further < 2 ^ 64)
+Fits (State.Going instructions reached taken) (Judgement.Refused chunk a) = Unit {0}
+Fits (State.Ended verdict) judgement = Unit {0}
 
 -- the counts are those of so many chunks at most
 unfoldable pub Few : State → (chunks : ℕ) → Type 0
-Few (Going instructions reached taken) chunks = (reached ≤ chunks * mostReached) × (taken ≤ chunks * mostTaken)
-Few (Ended verdict) chunks = Unit {0}
+Few (State.Going instructions reached taken) chunks = (reached ≤ chunks * mostReached) × (taken ≤ chunks * mostTaken)
+Few (State.Ended verdict) chunks = Unit {0}
 
 -- what a call for one chunk builds on
 pub record ReadyForChunk (S : Script) (number : ℕ) (state : State) (marks heights records work : List ℕ) : Type 0 where
@@ -103,9 +106,9 @@ module _ (S : Script) (records work : ℕ) (span : Span) (number : ℕ) (state :
 
 -- whether there is another chunk to judge
 unfoldable pub goesOn : State → (number chunks : ℕ) → Bool
-goesOn (Going instructions reached taken) number chunks = ltb number chunks
-goesOn (Ended verdict) number chunks = false
+goesOn (State.Going instructions reached taken) number chunks = ltb number chunks
+goesOn (State.Ended verdict) number chunks = false
 
 unfoldable pub finished : State → Verdict
-finished (Going instructions reached taken) = numbered noChunk (Accepted instructions reached taken)
-finished (Ended verdict) = verdict
+finished (State.Going instructions reached taken) = numbered noChunk (Answer.Accepted instructions reached taken)
+finished (State.Ended verdict) = verdict

@@ -3,7 +3,7 @@ ghost use mathlib.Core.Path.{_≡_};
 ghost use lib.ListN.{length};
 ghost use Rattle.before.specs.Parameters.{input};
 ghost use Rattle.rules.specs.FromLists.{script};
-ghost use Rattle.verify.specs.Stages.{BothClear, Begins, Fits, Advances, ReadyForChunk, Takes, goesOn, finished};
+ghost use Rattle.verify.specs.Stages.{BothClear, Begins, Advances, Fits, ReadyForChunk, Takes, goesOn, finished};
 use answer::Answer;
 use answer::Outcome;
 use answer::verdict;

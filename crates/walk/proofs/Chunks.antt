@@ -8,15 +8,13 @@ use Rattle.code.specs.Width.{widthOf}
 use Rattle.listing.proofs.Before.{before-few}
 use Rattle.answer.specs.declared.Answer.{Answer}
 use Rattle.answer.specs.Answer.{unless}
-use Rattle.demand.specs.Chunk.{passes, fails, heightTest, measured, walked, judgeChunk}
-use Rattle.demand.specs.BeforeWalk.{redeclared, BeforeWalk}
+use Rattle.demand.specs.Chunk.{rule, judge, machine, passes, fails, heightTest, measured, walked, judgeChunk}
+use Rattle.demand.specs.BeforeWalk.{BeforeWalk, redeclared}
 use Rattle.answer.specs.Depths.{Item}
-use Rattle.demand.specs.Span.{E, Span}
-use Rattle.machine.specs.Machine.{origin}
-use Rattle.demand.specs.Rule.{machine, rule, judge}
+use Rattle.demand.specs.Span.{Span, E}
+use Rattle.machine.specs.Walk.{origin, Book, blank, Turn, goes-on, stops, run, Run, accepted, refused, unfinished, walk}
+use Rattle.machine.specs.Walk.{Log, log}
 use Rattle.rules.specs.Script.{Script}
-use Rattle.machine.specs.Walk.{Book, blank, Turn, goes-on, stops, Run, accepted, refused, unfinished, run, walk, Log}
-use Rattle.machine.specs.Walk.{log}
 use Rattle.demand.proofs.Demand.{judged-walks, redeclared-before}
 use Rattle.machine.proofs.Ends.{accepted-bounded, refused-bounded}
 use Rattle.demand.proofs.Keeps.{keeps-laws}
@@ -30,8 +28,8 @@ use Rattle.walk.specs.declared.Hand.{Hand}
 use Rattle.opening.specs.declared.Room.{Room}
 use Rattle.opening.specs.Records.{keys, laid}
 use Rattle.walk.specs.Records.{seenStore}
-use Rattle.walk.specs.Turn.{Ends, GoesOn, WalkAt, turnOf, roomSpan}
-use Rattle.walk.specs.Hand.{firstHand, bookOf, bookWith, itemOf}
+use Rattle.walk.specs.Turn.{roomSpan, turnOf, WalkAt, GoesOn, Ends}
+use Rattle.walk.specs.Hand.{itemOf, bookWith, bookOf, firstHand}
 use Rattle.walk.proofs.Store.{Fit, faithful, laid-fit, laid-empty}
 
 measured-as : (declared : ℕ) (b : Book Log) {height reached taken : ℕ} → height ≡ b .height → reached ≡ b .reached → taken ≡ b .taken

@@ -14,8 +14,8 @@ use Rattle.walk.specs.declared.Hand.{Hand}
 use Rattle.opening.specs.declared.Room.{Room}
 use Rattle.walk.specs.declared.Turn.{Turn}
 use Rattle.walk.specs.declared.Turn.the-variants.{Next}
-use Rattle.walk.specs.Leaving.{InstructionLeft, RoomToLeave, noted, BackOrDone, Pushed, jumpsTo}
-use Rattle.walk.specs.Hand.{enteredHand, fallen}
+use Rattle.walk.specs.Leaving.{jumpsTo, Pushed, BackOrDone, noted, RoomToLeave, InstructionLeft}
+use Rattle.walk.specs.Hand.{fallen, enteredHand}
 use Rattle.walk.proofs.Turns.{noted-length, noted-front}
 
 module _ (room : Room) (h : Hand) (edges : Edges) (targets records work : List ℕ) (L : RoomToLeave room h (edges .next) targets records work)

@@ -8,13 +8,13 @@ use lib.ListN.{length}
 use Rattle.code.specs.Width.{widthOf}
 use Rattle.listing.proofs.Before.{before-few}
 use Rattle.demand.specs.BeforeWalk.{BeforeWalk}
-use Rattle.demand.specs.Span.{E, chunkStarts, Span}
+use Rattle.demand.specs.Span.{Span, chunkStarts, E}
 use Rattle.rules.specs.Edges.{degree}
 use Rattle.machine.specs.Lists.{here}
-use Rattle.demand.specs.Rule.{machine}
+use Rattle.demand.specs.Chunk.{machine}
 use Rattle.rules.specs.Script.{Script}
 use Rattle.demand.specs.Span as spans
-use Rattle.machine.specs.Walk.{Book, Log, unfinished, walk, log}
+use Rattle.machine.specs.Walk.{Book, unfinished, walk, Log, log}
 use Rattle.machine.proofs.Ends.{Bounded}
 use Rattle.demand.proofs.Inside.{inside}
 use Rattle.demand.proofs.Keeps.{keeps-laws}
@@ -27,8 +27,8 @@ use Rattle.words.proofs.Items.{length-items}
 use Rattle.walk.specs.declared.Hand.{Hand}
 use Rattle.opening.specs.declared.Room.{Room}
 use Rattle.walk.specs.Records.{seenStore}
-use Rattle.walk.specs.Turn.{WalkAt, roomSpan}
-use Rattle.walk.specs.Hand.{bookOf, itemOf}
+use Rattle.walk.specs.Turn.{roomSpan, WalkAt}
+use Rattle.walk.specs.Hand.{itemOf, bookOf}
 use Rattle.walk.proofs.Store.{Fit, faithful, laid-fit, laid-empty}
 
 module _ (S : Script) (room : Room) (records work : List ℕ) (B : BeforeWalk S (roomSpan room) (length records) (length work)) (h : Hand) (G : WalkAt S room h records work) where

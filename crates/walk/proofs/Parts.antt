@@ -15,7 +15,7 @@ use Rattle.answer.proofs.Apart.{zero≢one}
 use Rattle.words.specs.Stack.{itemAt, items, put, putAll, Clear}
 use Rattle.words.proofs.Items.{length-put, items-on, items-kept, clear-top}
 use Rattle.walk.specs.declared.Hand.{Hand}
-use Rattle.walk.specs.Leaving.{TakenBack, Pushed, jumpsTo}
+use Rattle.walk.specs.Leaving.{jumpsTo, Pushed, TakenBack}
 
 -- ---- a key
 

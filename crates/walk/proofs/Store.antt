@@ -13,8 +13,8 @@ use Rattle.code.specs.Layout.{among}
 use Rattle.order.specs.Order.{below}
 use Rattle.answer.specs.declared.Depths.{Depths}
 use Rattle.answer.specs.Depths.{Item}
-use Rattle.demand.specs.Span.{T, Span}
-use Rattle.demand.specs.Rule.{machine}
+use Rattle.demand.specs.Span.{Span, T}
+use Rattle.demand.specs.Chunk.{machine}
 use Rattle.rules.specs.Script.{Script}
 use Rattle.machine.proofs.Stores.{Noting, Faithful}
 use Rattle.words.specs.Seen.{seenAt, noteAt}

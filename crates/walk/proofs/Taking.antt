@@ -9,12 +9,11 @@ use lib.ListN.{length, take, length-map}
 use Rattle.answer.specs.declared.Answer.{Answer}
 use Rattle.answer.specs.declared.Answer.the-variants.{FallsOffTheEnd, DepthConflict}
 use Rattle.answer.specs.declared.Depths.{Depths}
-use Rattle.answer.specs.Depths.{Item, agree}
+use Rattle.answer.specs.Depths.{agree, Item}
 use Rattle.rules.specs.Edges.{falls, targets, after, jumped, next}
-use Rattle.machine.specs.Machine.{gives, fallTo}
-use Rattle.demand.specs.Rule.{machine, rule, judge}
+use Rattle.machine.specs.Walk.{gives, fallTo, goes-on, stops, push, firstBadJump, seen}
+use Rattle.demand.specs.Chunk.{rule, judge, machine}
 use Rattle.rules.specs.Script.{Script, tagOf}
-use Rattle.machine.specs.Walk.{goes-on, stops, firstBadJump, push, seen}
 use Rattle.machine.specs.Walk as definition
 use Rattle.machine.proofs.Agree.{agree-true, agree-refl}
 use Rattle.answer.proofs.Apart.{zero≢one}
@@ -29,9 +28,9 @@ use Rattle.walk.specs.declared.Turn.{Turn}
 use Rattle.walk.specs.declared.Turn.the-variants.{Next, Done, Refused}
 use Rattle.opening.specs.Records.{keys}
 use Rattle.walk.specs.Records.{seenStore}
-use Rattle.walk.specs.Turn.{ItemTaken, SameTurn, Unseen, AtItem, turnOf, roomSpan}
-use Rattle.walk.specs.Leaving.{InstructionLeft, RoomToLeave, BackOrDone, jumpsTo}
-use Rattle.walk.specs.Hand.{enteredHand, droppedHand, bookOf, itemOf}
+use Rattle.walk.specs.Turn.{roomSpan, turnOf, AtItem, Unseen, SameTurn, ItemTaken}
+use Rattle.walk.specs.Leaving.{jumpsTo, BackOrDone, RoomToLeave, InstructionLeft}
+use Rattle.walk.specs.Hand.{itemOf, bookOf, droppedHand, enteredHand}
 use Rattle.walk.proofs.Turns.{front, noted-so, entered-turn}
 
 module _ (S : Script) (room : Room) where

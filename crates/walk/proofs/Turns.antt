@@ -19,11 +19,10 @@ use Rattle.order.proofs.Laws.{below-mono}
 use Rattle.pools.proofs.Most.{code-small}
 use Rattle.answer.specs.declared.Answer.{Answer}
 use Rattle.rules.specs.Edges.{degree, falls, targets, after, jumped, next}
-use Rattle.machine.specs.Machine.{denies, gives, fallTo}
-use Rattle.demand.specs.Rule.{machine, rule, judge}
+use Rattle.machine.specs.Walk.{denies, gives, fallTo, entered, goes-on, stops, push, firstBadJump, seen}
+use Rattle.demand.specs.Chunk.{rule, judge, machine}
 use Rattle.rules.specs.Script.{Script, tagOf}
 use Rattle.demand.specs.Span.{Span}
-use Rattle.machine.specs.Walk.{entered, goes-on, stops, firstBadJump, push, seen}
 use Rattle.machine.proofs.Laws.{Passes}
 use Rattle.answer.proofs.Apart.{zero≢one}
 use Rattle.machine.proofs.Turn.{New, is-denied, jumps-badly, enters, refuses, turn-is, seen-named, seen-other}
@@ -34,9 +33,9 @@ use Rattle.walk.specs.declared.Hand.{Hand}
 use Rattle.opening.specs.declared.Room.{Room}
 use Rattle.opening.specs.Records.{named, keys}
 use Rattle.walk.specs.Records.{slotOf, seenStore}
-use Rattle.walk.specs.Turn.{Unseen, AtItem, turnOf, roomSpan}
-use Rattle.walk.specs.Leaving.{RoomToLeave, noted, jumpsTo}
-use Rattle.walk.specs.Hand.{bookOf, itemOf}
+use Rattle.walk.specs.Turn.{roomSpan, turnOf, AtItem, Unseen}
+use Rattle.walk.specs.Leaving.{jumpsTo, noted, RoomToLeave}
+use Rattle.walk.specs.Hand.{itemOf, bookOf}
 use Rattle.walk.proofs.Moment.{fit, in-chunk, small, roomy}
 use Rattle.walk.proofs.Store.{take-note}
 use Rattle.opening.proofs.Targets.{few-keys, keys-rise, named-key, key-named, key-there, there-key}

@@ -2,7 +2,8 @@
 -- (entry, 0, 0, 0) and takes the work item pushed last".
 use mathlib.Core.List.{List}
 use Prim.Native.Nat.{ℕ, _+_, max}
-use Rattle.answer.specs.Depths.{Depths, Item, zeros}
+use Rattle.answer.specs.declared.Depths.{Depths}
+use Rattle.answer.specs.Depths.{zeros, Item}
 use Rattle.machine.specs.Walk.{Book}
 use Rattle.order.specs.Order.{below}
 use Rattle.walk.specs.declared.Counts.{Counts}

@@ -6,7 +6,8 @@ use mathlib.Core.Path.{_≡_}
 use Prim.Native.Nat.{ℕ, _+_, _*_, _^_, _≤_, _<_}
 use lib.Dec.{ltb, eqb}
 use lib.ListN.{length, getD, take}
-use Rattle.answer.specs.Depths.{Depths, Item}
+use Rattle.answer.specs.declared.Depths.{Depths}
+use Rattle.answer.specs.Depths.{Item}
 use Rattle.opening.specs.declared.Room.{Room}
 use Rattle.order.specs.Order.{Rising, below}
 use Rattle.ruling.specs.declared.Edges.{Edges}
@@ -15,7 +16,6 @@ use Rattle.words.specs.Stack.{items, putAll, Clear}
 use Rattle.walk.specs.declared.Counts.{Counts}
 use Rattle.walk.specs.declared.Hand.{Hand}
 use Rattle.walk.specs.declared.Turn.{Turn}
-use Rattle.walk.specs.declared.Turn.the-variants.{Next, Done, Refused}
 use Rattle.walk.specs.Hand.{itemOf, countsOf, fallen, enteredHand}
 
 -- a jump to each target, with the same depths
@@ -43,9 +43,9 @@ pub record NoneBack (h : Hand) (work : List ℕ) (last : Counts) (work′ : List
   pub words : work′ ≡ work
 
 abbrev pub BackOrDone : (keys : List ℕ) → Hand → (work : List ℕ) → Turn → (work′ : List ℕ) → Type 0
-BackOrDone keys h work (Next next) work′ = TakenBack keys h work next work′
-BackOrDone keys h work (Done last) work′ = NoneBack h work last work′
-BackOrDone keys h work (Refused a) work′ = ⊥
+BackOrDone keys h work (Turn.Next next) work′ = TakenBack keys h work next work′
+BackOrDone keys h work (Turn.Done last) work′ = NoneBack h work last work′
+BackOrDone keys h work (Turn.Refused a) work′ = ⊥
 
 -- the words with the depths in hand noted, where the place is a key
 abbrev pub noted : Room → Hand → List ℕ → List ℕ
@@ -79,5 +79,5 @@ module _ (room : Room) (h : Hand) (edges : Edges) (targets records work : List �
   pub record InstructionLeft (r : Turn) (records′ work′ : List ℕ) : Type 0 where
     pub words : records′ ≡ noted room h records
     pub goes : edges .falls ≡ true
-        → (r ≡ Next (fallen (take (room .keys) records) entered (edges .next) (edges .after))) × (work′ ≡ pushed)
+        → (r ≡ Turn.Next (fallen (take (room .keys) records) entered (edges .next) (edges .after))) × (work′ ≡ pushed)
     pub back : edges .falls ≡ false → BackOrDone (take (room .keys) records) entered pushed r work′

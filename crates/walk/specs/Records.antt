@@ -4,7 +4,7 @@ use mathlib.Core.Bool.{cond}
 use mathlib.Core.List.{List}
 use Prim.Native.Nat.{ℕ, _+_, _*_}
 use Rattle.code.specs.Layout.{among}
-use Rattle.demand.specs.Span.{T, Span}
+use Rattle.demand.specs.Span.{Span, T}
 use Rattle.machine.specs.Walk.{Store}
 use Rattle.opening.specs.Records.{keys}
 use Rattle.order.specs.Order.{below}

@@ -5,10 +5,10 @@ use mathlib.Core.Option.{none}
 use mathlib.Core.Path.{_≡_}
 use Prim.Native.Nat.{ℕ, _+_, _<_}
 use lib.ListN.{length}
-use Rattle.answer.specs.Answer.{Answer}
+use Rattle.answer.specs.declared.Answer.{Answer}
 use Rattle.demand.specs.BeforeWalk.{BeforeWalk}
-use Rattle.demand.specs.Rule.{machine}
-use Rattle.demand.specs.Span.{T, Span}
+use Rattle.demand.specs.Chunk.{machine}
+use Rattle.demand.specs.Span.{Span, T}
 use Rattle.machine.specs.Walk.{goes-on, stops, unfinished, seen, turn, walk}
 use Rattle.machine.specs.Walk as definition
 use Rattle.opening.specs.declared.Room.{Room}
@@ -20,7 +20,6 @@ use Rattle.words.specs.Stack.{items, Clear}
 use Rattle.walk.specs.declared.Counts.{Counts}
 use Rattle.walk.specs.declared.Hand.{Hand}
 use Rattle.walk.specs.declared.Turn.{Turn}
-use Rattle.walk.specs.declared.Turn.the-variants.{Next, Done, Refused}
 use Rattle.walk.specs.Hand.{itemOf, bookWith, bookOf}
 use Rattle.walk.specs.Records.{seenStore}
 
@@ -79,9 +78,9 @@ module _ (S : Script) (room : Room) where
     pub same-work : work′ ≡ work
 
   abbrev pub SameTurn : WalkTurn → (records work : List ℕ) → Turn → (records′ work′ : List ℕ) → Type 0
-  SameTurn t records work (Next next) records′ work′ = GoesOn t next records′ work′
-  SameTurn t records work (Done last) records′ work′ = Ends t last records′ work′
-  SameTurn t records work (Refused a) records′ work′ = Stops t a records work records′ work′
+  SameTurn t records work (Turn.Next next) records′ work′ = GoesOn t next records′ work′
+  SameTurn t records work (Turn.Done last) records′ work′ = Ends t last records′ work′
+  SameTurn t records work (Turn.Refused a) records′ work′ = Stops t a records work records′ work′
 
   abbrev pub ItemTaken : Hand → (records work : List ℕ) → Turn → (records′ work′ : List ℕ) → Type 0
   ItemTaken h records work = SameTurn (turnOf h records work) records work

@@ -3,7 +3,7 @@ ghost use mathlib.Core.Path.{_≡_};
 ghost use Prim.Native.Nat.{_*_, _≤_, _<_};
 ghost use lib.ListN.{length, take};
 ghost use Rattle.order.specs.Order.{Rising};
-ghost use Rattle.walk.specs.Ends.{Closed, Abandoned};
+ghost use Rattle.walk.specs.Ends.{Abandoned, Closed};
 ghost use Rattle.walk.specs.Hand.{firstHand};
 use crate::Hand;
 use answer::Answer;

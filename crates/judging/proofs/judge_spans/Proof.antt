@@ -1,5 +1,5 @@
--- `verify::spans::judge_spans` meets its contract: the loop over the chunks, and within it the loop over the items of one. Their
--- measures are how many chunks are left, and how many items more there can be.
+-- `judging::judge_spans` meets its contract: the loop over the chunks, and within it the loop over the items of one.
+-- Their measures are how many chunks are left, and how many items more there can be.
 use mathlib.Core.List.{List}
 use mathlib.Core.Path.{_≡_, refl, sym, ap, _∙_}
 use Prim.Native.Nat.{ℕ, _+_, _-_, _≤_, _<_}
@@ -22,7 +22,7 @@ use Rattle.demand.proofs.Demand.{fails-by, passes-to, judged-shut}
 use Rattle.walk.specs.declared.Counts.{Counts}
 use Rattle.walk.specs.declared.Hand.{Hand}
 use Rattle.walk.specs.declared.Turn.the-variants.{Next, Done, Refused}
-use Rattle.walk.specs.Turn.{Stops, Ends, GoesOn, turnOf, roomSpan}
+use Rattle.walk.specs.Turn.{roomSpan, WalkTurn, turnOf, GoesOn, Ends, Stops}
 use Rattle.judging.specs.Spans.{spansOf}
 use Rattle.judging.proofs.Chain.{span-count, span-there, span-within, Judging, judging-first, judging-done}
 use Rattle.judging.proofs.Chain.{judging-fails, judging-passes}
@@ -52,40 +52,60 @@ abbrev μ-call : tie.MeasureT-call
 
 -- at the head of the loop over the chunks
 module _ (p : tie.At-call Inv-items μ-items Inv-call μ-call) where
+  abbrev start : tie.Start Inv-items μ-items Inv-call μ-call
+  start = p .before .before .before .before .before .before .before .before .before .before .before .before .before .before .before .before
+
+  abbrev held-marks : List ℕ
+  held-marks = now (start .args .marks)
+
+  abbrev held-heights : List ℕ
+  held-heights = now (start .args .heights)
+
+  abbrev first-number : ℕ
+  first-number = start .args .first
+
   abbrev S : Script
   S =
-      script (p .before .before .before .before .before .before .before .before .before .before .before .before .before .before .before .before .args .rights) (now (p .before .before .before .before .before .before .before .before .before .before .before .before .before .before .before .before .args .names)) (now (p .before .before .before .before .before .before .before .before .before .before .before .before .before .before .before .before .args .chains)) (now (p .before .before .before .before .before .before .before .before .before .before .before .before .before .before .before .before .args .steps)) (now (p .before .before .before .before .before .before .before .before .before .before .before .before .before .before .before .before .args .switches)) (now (p .before .before .before .before .before .before .before .before .before .before .before .before .before .before .before .before .args .cases)) (now (p .before .before .before .before .before .before .before .before .before .before .before .before .before .before .before .before .args .ranges))
-      (now (p .before .before .before .before .before .before .before .before .before .before .before .before .before .before .before .before .args .code))
+      script (start .args .rights) (now (start .args .names)) (now (start .args .chains)) (now (start .args .steps))
+      (now (start .args .switches)) (now (start .args .cases)) (now (start .args .ranges))
+      (now (start .args .code))
 
   abbrev words : ℕ
-  words = length (now (p .before .before .before .before .before .before .before .before .before .before .before .before .before .before .before .before .args .records))
+  words = length (now (start .args .records))
 
   abbrev rooms : ℕ
-  rooms = length (now (p .before .before .before .before .before .before .before .before .before .before .before .before .before .before .before .before .args .work))
+  rooms = length (now (start .args .work))
 
   abbrev spans : List Span
-  spans = spansOf (now (p .before .before .before .before .before .before .before .before .before .before .before .before .before .before .before .before .args .entries)) (now (p .before .before .before .before .before .before .before .before .before .before .before .before .before .before .before .before .args .ends)) (now (p .before .before .before .before .before .before .before .before .before .before .before .before .before .before .before .before .args .declared))
+  spans = spansOf (now (start .args .entries)) (now (start .args .ends)) (now (start .args .declared))
 
   abbrev this : ℕ → Span
-  this declared = record { entry = getD (now (p .before .before .before .before .before .before .before .before .before .before .before .before .before .before .before .before .args .entries)) (p .call .at) 0; end = getD (now (p .before .before .before .before .before .before .before .before .before .before .before .before .before .before .before .before .args .ends)) (p .call .at) 0; declared = declared }
+  this declared =
+      record {
+        entry = getD (now (start .args .entries)) (p .call .at) 0;
+        end = getD (now (start .args .ends)) (p .call .at) 0;
+        declared = declared;
+      }
 
   counted : p .before .least .result ≡ length spans
-  counted = p .before .least .ensures ∙ sym (span-count (now (p .before .before .before .before .before .before .before .before .before .before .before .before .before .before .before .before .args .entries)) (now (p .before .before .before .before .before .before .before .before .before .before .before .before .before .before .before .before .args .ends)) (now (p .before .before .before .before .before .before .before .before .before .before .before .before .before .before .before .before .args .declared)))
+  counted =
+      p .before .least .ensures
+      ∙ sym (span-count (now (start .args .entries)) (now (start .args .ends)) (now (start .args .declared)))
 
   ready : Ready S
-  ready = p .before .before .before .before .before .before .before .before .before .before .before .before .before .before .before .before .pre .0
+  ready = start .pre .0
 
-  marked : Marked (now (p .before .before .before .before .before .before .before .before .before .before .before .before .before .before .before .before .args .marks)) (S .code)
-  marked = p .before .before .before .before .before .before .before .before .before .before .before .before .before .before .before .before .pre .1 .0
+  marked : Marked held-marks (S .code)
+  marked = start .pre .1 .0
 
   few-spans : length spans ≤ maxChunks
-  few-spans = p .before .before .before .before .before .before .before .before .before .before .before .before .before .before .before .before .pre .1 .1 .1 .1 .0
+  few-spans = start .pre .1 .1 .1 .1 .0
 
-  heights-room : p .before .before .before .before .before .before .before .before .before .before .before .before .before .before .before .before .args .first + length spans ≤ length (now (p .before .before .before .before .before .before .before .before .before .before .before .before .before .before .before .before .args .heights))
-  heights-room = p .before .before .before .before .before .before .before .before .before .before .before .before .before .before .before .before .pre .1 .1 .1 .1 .1 .0
+  heights-room : first-number + length spans ≤ length held-heights
+  heights-room = start .pre .1 .1 .1 .1 .1 .0
 
-  low : p .before .before .before .before .before .before .before .before .before .before .before .before .before .before .before .before .args .first ≤ maxChunks
-  low = p .before .before .before .before .before .before .before .before .before .before .before .before .before .before .before .before .pre .1 .1 .1 .1 .1 .1
+  low : first-number ≤ maxChunks
+  low = start .pre .1 .1 .1 .1 .1 .1
 
   records-long : length (p .call .records) ≡ words
   records-long = ap length (p .call .inv .records-zero) ∙ length-replicate words 0
@@ -100,29 +120,62 @@ module _ (q : tie.Else1 Inv-items μ-items Inv-call μ-call) where
 
 -- it was opened
 module _ (o : tie.After-open-span Inv-items μ-items Inv-call μ-call) where
-  opens : (declared : ℕ) → OpenedAs (S (o .before .before .before .before .before .before)) (this (o .before .before .before .before .before .before) declared) (words (o .before .before .before .before .before .before)) (rooms (o .before .before .before .before .before .before)) (o .open-span .result) (o .open-span .last .1 .1 .1 .1 .1 .1 .1 .0) (o .open-span .last .1 .1 .1 .1 .1 .1 .1 .1 .0)
-  opens declared = rw (records-long (o .before .before .before .before .before .before), work-long (o .before .before .before .before .before .before)) at (o .open-span .ensures (o .before .before .before .before .before .before .before .before .before .before .before .before .before .before .before .before .before .before .before .before .before .before .args .rights) (now (o .before .before .before .before .before .before .before .before .before .before .before .before .before .before .before .before .before .before .before .before .before .before .args .names)) (now (o .before .before .before .before .before .before .before .before .before .before .before .before .before .before .before .before .before .before .before .before .before .before .args .chains)) (now (o .before .before .before .before .before .before .before .before .before .before .before .before .before .before .before .before .before .before .before .before .before .before .args .steps)) declared)
+  abbrev o-head : tie.At-call Inv-items μ-items Inv-call μ-call
+  o-head = o .before .before .before .before .before .before
+
+  abbrev records-opened : List ℕ
+  records-opened = o .open-span .last .1 .1 .1 .1 .1 .1 .1 .0
+
+  abbrev work-opened : List ℕ
+  work-opened = o .open-span .last .1 .1 .1 .1 .1 .1 .1 .1 .0
+
+  opens : (declared : ℕ) → OpenedAs (S o-head) (this o-head declared) (words o-head) (rooms o-head)
+      (o .open-span .result) records-opened work-opened
+  opens declared =
+      let s = start o-head in
+      rw (records-long o-head, work-long o-head) at
+      (o .open-span .ensures (s .args .rights) (now (s .args .names)) (now (s .args .chains)) (now (s .args .steps))
+      declared)
 
 module _ (q : tie.After-opened2 Inv-items μ-items Inv-call μ-call) where
+  abbrev q-head : tie.At-call Inv-items μ-items Inv-call μ-call
+  q-head = q .before .before .before .before .before .before .before .before .before .before .before .before
+
   abbrev room : Room
   room = q .opened2 .given .0 .0
 
-  opened : Readies (S (q .before .before .before .before .before .before .before .before .before .before .before .before)) (this (q .before .before .before .before .before .before .before .before .before .before .before .before) 0) (words (q .before .before .before .before .before .before .before .before .before .before .before .before)) (rooms (q .before .before .before .before .before .before .before .before .before .before .before .before)) room (q .before .before .before .before .before .before .open-span .last .1 .1 .1 .1 .1 .1 .1 .0) (q .before .before .before .before .before .before .open-span .last .1 .1 .1 .1 .1 .1 .1 .1 .0)
-  opened = opens-ready _ _ _ _ _ _ _ (opens (q .before .before .before .before .before .before) 0) (q .opened2 .given .1)
+  abbrev q-asked : tie.After-open-span Inv-items μ-items Inv-call μ-call
+  q-asked = q .before .before .before .before .before .before
+
+  opened : Readies (S q-head) (this q-head 0) (words q-head) (rooms q-head) room
+      (records-opened q-asked) (work-opened q-asked)
+  opened =
+      opens-ready _ _ _ _ _ _ _ (opens q-asked 0) (q .opened2 .given .1)
 
   -- what a judgement of it is a judgement of
-  judged : (declared : ℕ) → judgeChunk (S (q .before .before .before .before .before .before .before .before .before .before .before .before)) (redeclared (roomSpan room) declared) (words (q .before .before .before .before .before .before .before .before .before .before .before .before)) (rooms (q .before .before .before .before .before .before .before .before .before .before .before .before)) ≡ judgeChunk (S (q .before .before .before .before .before .before .before .before .before .before .before .before)) (this (q .before .before .before .before .before .before .before .before .before .before .before .before) declared) (words (q .before .before .before .before .before .before .before .before .before .before .before .before)) (rooms (q .before .before .before .before .before .before .before .before .before .before .before .before))
-  judged declared = judged-here _ (ready (q .before .before .before .before .before .before .before .before .before .before .before .before)) _ (marked (q .before .before .before .before .before .before .before .before .before .before .before .before)) _ _ opened declared
+  judged : (declared : ℕ) → judgeChunk (S q-head) (redeclared (roomSpan room) declared) (words q-head) (rooms q-head)
+      ≡ judgeChunk (S q-head) (this q-head declared) (words q-head) (rooms q-head)
+  judged declared = judged-here _ (ready q-head) _ (marked q-head) _ _ opened declared
 
 -- an item is in hand
 module _ (i : tie.At-items Inv-items μ-items Inv-call μ-call) where
-  walking : Walking (S (i .before .before .before .before .before .before .before .before .before .before .before .before .before .before .before .before)) (now (i .before .before .before .before .before .before .before .before .before .before .before .before .before .before .before .before .before .before .before .before .before .before .before .before .before .before .before .before .before .before .before .before .args .marks)) (words (i .before .before .before .before .before .before .before .before .before .before .before .before .before .before .before .before)) (rooms (i .before .before .before .before .before .before .before .before .before .before .before .before .before .before .before .before)) (room (i .before .before .before .before)) (i .items .hand) (i .items .records) (i .items .work)
+  abbrev i-more : tie.Else1 Inv-items μ-items Inv-call μ-call
+  i-more = i .before .before .before .before .before .before .before .before .before .before .before .before .before .before .before
+
+  abbrev i-head : tie.At-call Inv-items μ-items Inv-call μ-call
+  i-head = i-more .before
+
+  abbrev i-open : tie.After-opened2 Inv-items μ-items Inv-call μ-call
+  i-open = i .before .before .before .before
+
+  walking : Walking (S i-head) (held-marks i-head) (words i-head) (rooms i-head) (room i-open)
+      (i .items .hand) (i .items .records) (i .items .work)
   walking =
-      let q = i .before .before .before .before in
       record {
         at = i .items .inv .at;
-        records-long = i .items .inv .records-long ∙ opened-records _ (ready (i .before .before .before .before .before .before .before .before .before .before .before .before .before .before .before .before)) _ (marked (i .before .before .before .before .before .before .before .before .before .before .before .before .before .before .before .before)) _ _ (opened q);
-        work-long = i .items .inv .work-long ∙ opened-work _ (ready (i .before .before .before .before .before .before .before .before .before .before .before .before .before .before .before .before)) _ (marked (i .before .before .before .before .before .before .before .before .before .before .before .before .before .before .before .before)) _ _ (opened q);
+        records-long =
+            i .items .inv .records-long ∙ opened-records _ (ready i-head) _ (marked i-head) _ _ (opened i-open);
+        work-long = i .items .inv .work-long ∙ opened-work _ (ready i-head) _ (marked i-head) _ _ (opened i-open);
       }
 
 -- and was taken
@@ -130,31 +183,50 @@ module _ (t : tie.After-slice-known7 Inv-items μ-items Inv-call μ-call) where
   abbrev i : tie.At-items Inv-items μ-items Inv-call μ-call
   i = t .before .before .before .before .before .before .before
 
-  records-kept : length (t .before .before .before .before .take-item .last .1 .1 .1 .1 .1 .1 .1 .1 .1 .1 .1 .0) ≡ length (i .items .records)
+  abbrev asked : tie.After-take-item Inv-items μ-items Inv-call μ-call
+  asked = t .before .before .before .before
+
+  abbrev records-after : List ℕ
+  records-after = asked .take-item .last .1 .1 .1 .1 .1 .1 .1 .1 .1 .1 .1 .0
+
+  abbrev work-after : List ℕ
+  work-after = asked .take-item .last .1 .1 .1 .1 .1 .1 .1 .1 .1 .1 .1 .1 .0
+
+  abbrev this-turn : WalkTurn
+  this-turn = turnOf (S (i-head i)) (room (i-open i)) (i .items .hand) (i .items .records) (i .items .work)
+
+  records-kept : length records-after ≡ length (i .items .records)
   records-kept = omega (arith, t .before .before .before .records2)
 
-  work-kept : length (t .before .before .before .before .take-item .last .1 .1 .1 .1 .1 .1 .1 .1 .1 .1 .1 .1 .0) ≡ length (i .items .work)
+  work-kept : length work-after ≡ length (i .items .work)
   work-kept = omega (arith, t .before .work2)
 
-  module _ {next : Hand} (e : t .before .before .before .before .take-item .result ≡ Next next) where
-    goes-on : GoesOn (S (i .before .before .before .before .before .before .before .before .before .before .before .before .before .before .before .before)) (room (i .before .before .before .before)) (turnOf (S (i .before .before .before .before .before .before .before .before .before .before .before .before .before .before .before .before)) (room (i .before .before .before .before)) (i .items .hand) (i .items .records) (i .items .work)) next (t .before .before .before .before .take-item .last .1 .1 .1 .1 .1 .1 .1 .1 .1 .1 .1 .0) (t .before .before .before .before .take-item .last .1 .1 .1 .1 .1 .1 .1 .1 .1 .1 .1 .1 .0)
-    goes-on = took-next _ _ (i .items .hand) (i .items .records) (i .items .work) (t .before .before .before .before .take-item .result) _ _ (t .before .before .before .before .take-item .ensures) e
+  module _ {next : Hand} (e : asked .take-item .result ≡ Next next) where
+    goes-on : GoesOn (S (i-head i)) (room (i-open i)) this-turn next records-after work-after
+    goes-on =
+        took-next _ _ (i .items .hand) (i .items .records) (i .items .work) (asked .take-item .result) _ _
+        (asked .take-item .ensures) e
 
-  module _ {last : Counts} (e : t .before .before .before .before .take-item .result ≡ Done last) where
-    ends : Ends (S (i .before .before .before .before .before .before .before .before .before .before .before .before .before .before .before .before)) (room (i .before .before .before .before)) (turnOf (S (i .before .before .before .before .before .before .before .before .before .before .before .before .before .before .before .before)) (room (i .before .before .before .before)) (i .items .hand) (i .items .records) (i .items .work)) last (t .before .before .before .before .take-item .last .1 .1 .1 .1 .1 .1 .1 .1 .1 .1 .1 .0) (t .before .before .before .before .take-item .last .1 .1 .1 .1 .1 .1 .1 .1 .1 .1 .1 .1 .0)
-    ends = took-done _ _ (i .items .hand) (i .items .records) (i .items .work) (t .before .before .before .before .take-item .result) _ _ (t .before .before .before .before .take-item .ensures) e
+  module _ {last : Counts} (e : asked .take-item .result ≡ Done last) where
+    ends : Ends (S (i-head i)) (room (i-open i)) this-turn last records-after work-after
+    ends =
+        took-done _ _ (i .items .hand) (i .items .records) (i .items .work) (asked .take-item .result) _ _
+        (asked .take-item .ensures) e
 
-  module _ {a : Answer} (e : t .before .before .before .before .take-item .result ≡ Refused a) where
-    stops : Stops (S (i .before .before .before .before .before .before .before .before .before .before .before .before .before .before .before .before)) (room (i .before .before .before .before)) (turnOf (S (i .before .before .before .before .before .before .before .before .before .before .before .before .before .before .before .before)) (room (i .before .before .before .before)) (i .items .hand) (i .items .records) (i .items .work)) a (i .items .records) (i .items .work) (t .before .before .before .before .take-item .last .1 .1 .1 .1 .1 .1 .1 .1 .1 .1 .1 .0) (t .before .before .before .before .take-item .last .1 .1 .1 .1 .1 .1 .1 .1 .1 .1 .1 .1 .0)
-    stops = took-refused _ _ (i .items .hand) (i .items .records) (i .items .work) (t .before .before .before .before .take-item .result) _ _ (t .before .before .before .before .take-item .ensures) e
+  module _ {a : Answer} (e : asked .take-item .result ≡ Refused a) where
+    stops : Stops (S (i-head i)) (room (i-open i)) this-turn a (i .items .records) (i .items .work)
+        records-after work-after
+    stops =
+        took-refused _ _ (i .items .hand) (i .items .records) (i .items .work) (asked .take-item .result) _ _
+        (asked .take-item .ensures) e
 
 least-requires : tie.Need-least-requires Inv-items μ-items Inv-call μ-call
 least-requires c κs = search needs
 
 call-holds : tie.Need-call-holds Inv-items μ-items Inv-call μ-call
 call-holds c =
-    let start = c .before .before .before .before .before .before .before .before .before .before .before .before .before .before .before in
-    judging-first _ _ _ _ _ _ _ _ (start .pre .1 .1 .0) (start .pre .1 .1 .1 .0)
+    let begun = c .before .before .before .before .before .before .before .before .before .before .before .before .before .before .before in
+    judging-first _ _ _ _ _ _ _ _ (begun .pre .1 .1 .0) (begun .pre .1 .1 .1 .0)
 
 same-length : tie.Need-same-length Inv-items μ-items Inv-call μ-call
 same-length c = c .before .call .inv .long
@@ -200,10 +272,18 @@ enum-known-opened-2 : tie.Need-enum-known-opened-2 Inv-items μ-items Inv-call �
 enum-known-opened-2 c = search needs
 
 first-item-requires : tie.Need-first-item-requires Inv-items μ-items Inv-call μ-call
-first-item-requires c κs = (opened-keys _ (ready (c .before .before .before .before .before .before .before .before .before .before .before .before .before .before)) _ (marked (c .before .before .before .before .before .before .before .before .before .before .before .before .before .before)) _ _ (opened (c .before .before)), opened-rises _ (ready (c .before .before .before .before .before .before .before .before .before .before .before .before .before .before)) _ (marked (c .before .before .before .before .before .before .before .before .before .before .before .before .before .before)) _ _ (opened (c .before .before)))
+first-item-requires c κs =
+    let at-room = c .before .before in
+    let head = q-head at-room in (
+      opened-keys _ (ready head) _ (marked head) _ _ (opened at-room),
+      opened-rises _ (ready head) _ (marked head) _ _ (opened at-room),
+    )
 
 items-holds : tie.Need-items-holds Inv-items μ-items Inv-call μ-call
-items-holds c = first-walking-here _ (ready (c .before .before .before .before .before .before .before .before .before .before .before .before .before .before .before)) _ (marked (c .before .before .before .before .before .before .before .before .before .before .before .before .before .before .before)) _ _ (opened (c .before .before .before)) (c .first-item .ensures)
+items-holds c =
+    let at-room = c .before .before .before in
+    let head = q-head at-room in
+    first-walking-here _ (ready head) _ (marked head) _ _ (opened at-room) (c .first-item .ensures)
 
 take-item-requires : tie.Need-take-item-requires Inv-items μ-items Inv-call μ-call
 take-item-requires c κs = c .before .before .items .inv .at
@@ -213,11 +293,18 @@ enum-known-turn c = search needs
 
 items-less : tie.Need-items-less Inv-items μ-items Inv-call μ-call
 items-less c =
-    let on = walking-on (c .before .before .before .before .before .before .before .before .before .before .items .inv) (goes-on (c .before .before .before) (c .before .turn .given .1)) (records-kept (c .before .before .before) ∙ c .before .before .before .before .before .before .before .before .before .before .items .inv .records-long) (work-kept (c .before .before .before) ∙ c .before .before .before .before .before .before .before .before .before .before .items .inv .work-long) in
-    omega (arith, on .1, few-taken (c .before .before .before .before .before .before .before .before .before .before .items .inv))
+    let took = c .before .before .before in
+    let W = i took .items .inv in
+    let on = walking-on W (goes-on took (c .before .turn .given .1)) (records-kept took ∙ W .records-long)
+    (work-kept took ∙ W .work-long) in
+    omega (arith, on .1, few-taken W)
 
 items-again : tie.Need-items-again Inv-items μ-items Inv-call μ-call
-items-again c = walking-on (c .before .before .before .before .before .before .before .before .before .before .items .inv) (goes-on (c .before .before .before) (c .before .turn .given .1)) (records-kept (c .before .before .before) ∙ c .before .before .before .before .before .before .before .before .before .before .items .inv .records-long) (work-kept (c .before .before .before) ∙ c .before .before .before .before .before .before .before .before .before .before .items .inv .work-long) .0
+items-again c =
+    let took = c .before .before .before in
+    let W = i took .items .inv in
+    walking-on W (goes-on took (c .before .turn .given .1)) (records-kept took ∙ W .records-long)
+    (work-kept took ∙ W .work-long) .0
 
 enum-known-turn-2 : tie.Need-enum-known-turn-2 Inv-items μ-items Inv-call μ-call
 enum-known-turn-2 c = search needs
@@ -227,23 +314,44 @@ enum-known-turn-3 c = search needs
 
 abandon-requires : tie.Need-abandon-requires Inv-items μ-items Inv-call μ-call
 abandon-requires c κs =
-    let W = walking (c .before .before .before .before .before .before .before .before .before .before .before .before) in
-    (omega (arith, used-room W, W .records-long, records-kept (c .before .before .before .before .before)), omega (arith, waits-within W, W .work-long, work-kept (c .before .before .before .before .before)))
+    let took = c .before .before .before .before .before in
+    let item = i took in
+    let W = walking item in (
+      omega (arith, used-room W, W .records-long, records-kept took),
+      omega (arith, waits-within W, W .work-long, work-kept took),
+    )
 
 mul-close-chunk : tie.Need-mul-close-chunk Inv-items μ-items Inv-call μ-call
-mul-close-chunk c = omega (arith, span-within _ _ _ _ (here (c .before .before .before .before .before .before .before .before .before .before .before .before .before .before .before .before .before .before .before .before .before .before .before .before .before)) .2, few-spans (c .before .before .before .before .before .before .before .before .before .before .before .before .before .before .before .before .before .before .before .before .before .before .before .before .before .before), here (c .before .before .before .before .before .before .before .before .before .before .before .before .before .before .before .before .before .before .before .before .before .before .before .before .before))
+mul-close-chunk c =
+    let took = c .before .before .before in
+    let more = i-more (i took) in
+    let head = more .before in
+    omega (arith, span-within _ _ _ _ (here more) .2, few-spans head, here more)
 
 shared-slice-read-close-chunk :
     tie.Need-shared-slice-read-close-chunk Inv-items μ-items Inv-call μ-call
-shared-slice-read-close-chunk c = span-within _ _ _ _ (here (c .before .before .before .before .before .before .before .before .before .before .before .before .before .before .before .before .before .before .before .before .before .before .before .before .before .before)) .2
+shared-slice-read-close-chunk c =
+    let took = c .before .before .before .before in
+    let more = i-more (i took) in
+    span-within _ _ _ _ (here more) .2
 
 cast-close-chunk : tie.Need-cast-close-chunk Inv-items μ-items Inv-call μ-call
-cast-close-chunk c = omega (arith, few-spans (c .before .before .before .before .before .before .before .before .before .before .before .before .before .before .before .before .before .before .before .before .before .before .before .before .before .before .before), here (c .before .before .before .before .before .before .before .before .before .before .before .before .before .before .before .before .before .before .before .before .before .before .before .before .before .before), low (c .before .before .before .before .before .before .before .before .before .before .before .before .before .before .before .before .before .before .before .before .before .before .before .before .before .before .before))
+cast-close-chunk c =
+    let took = c .before .before .before .before in
+    let more = i-more (i took) in
+    let head = more .before in
+    omega (arith, few-spans head, here more, low head)
 
 close-chunk-requires : tie.Need-close-chunk-requires Inv-items μ-items Inv-call μ-call
 close-chunk-requires c κs =
-    let W = walking (c .before .before .before .before .before .before .before .before .before .before .before .before .before) in
-    (omega (arith, used-room W, W .records-long, records-kept (c .before .before .before .before .before .before)), omega (arith, here (c .before .before .before .before .before .before .before .before .before .before .before .before .before .before .before .before .before .before .before .before .before .before .before .before .before .before .before .before), heights-room (c .before .before .before .before .before .before .before .before .before .before .before .before .before .before .before .before .before .before .before .before .before .before .before .before .before .before .before .before .before), c .before .before .before .before .before .before .before .before .before .before .before .before .before .before .before .before .before .before .before .before .before .before .before .before .before .before .before .before .before .call .inv .long))
+    let took = c .before .before .before .before .before .before in
+    let item = i took in
+    let more = i-more item in
+    let head = more .before in
+    let W = walking item in (
+      omega (arith, used-room W, W .records-long, records-kept took),
+      omega (arith, here more, heights-room head, head .call .inv .long),
+    )
 
 enum-known-closed : tie.Need-enum-known-closed Inv-items μ-items Inv-call μ-call
 enum-known-closed c = search needs
@@ -253,36 +361,82 @@ enum-told c = search needs
 
 add-reached : tie.Need-add-reached Inv-items μ-items Inv-call μ-call
 add-reached c =
-    let few = ended-few (walking (c .before .before .before .before .before .before .before .before .before .before .before .before .before .before .before .before .before .before .before .before .before)) (ends (c .before .before .before .before .before .before .before .before .before .before .before .before .before .before) (c .before .before .before .before .before .before .before .before .before .before .before .before .turn2 .given .1)) in
-    omega (arith, code-small, few .reached, ready (c .before .before .before .before .before .before .before .before .before .before .before .before .before .before .before .before .before .before .before .before .before .before .before .before .before .before .before .before .before .before .before .before .before .before .before .before .before) .listable .small, c .before .before .before .before .before .before .before .before .before .before .before .before .before .before .before .before .before .before .before .before .before .before .before .before .before .before .before .before .before .before .before .before .before .before .before .before .before .call .inv .few-reached, here (c .before .before .before .before .before .before .before .before .before .before .before .before .before .before .before .before .before .before .before .before .before .before .before .before .before .before .before .before .before .before .before .before .before .before .before .before), few-spans (c .before .before .before .before .before .before .before .before .before .before .before .before .before .before .before .before .before .before .before .before .before .before .before .before .before .before .before .before .before .before .before .before .before .before .before .before .before))
+    let turned = c .before .before .before .before .before .before .before .before .before .before .before .before in
+    let took = turned .before .before in
+    let item = i took in
+    let more = i-more item in
+    let head = more .before in
+    let few = ended-few (walking item) (ends took (turned .turn2 .given .1)) in
+    omega (
+      arith,
+      code-small,
+      few .reached,
+      ready head .listable .small,
+      head .call .inv .few-reached,
+      here more,
+      few-spans head,
+    )
 
 add-taken : tie.Need-add-taken Inv-items μ-items Inv-call μ-call
 add-taken c =
-    let few = ended-few (walking (c .before .before .before .before .before .before .before .before .before .before .before .before .before .before .before .before .before .before .before .before .before .before)) (ends (c .before .before .before .before .before .before .before .before .before .before .before .before .before .before .before) (c .before .before .before .before .before .before .before .before .before .before .before .before .before .turn2 .given .1)) in
-    omega (arith, room-small, few .taken, few-edges _ (ready (c .before .before .before .before .before .before .before .before .before .before .before .before .before .before .before .before .before .before .before .before .before .before .before .before .before .before .before .before .before .before .before .before .before .before .before .before .before .before)) _ (lent (walking (c .before .before .before .before .before .before .before .before .before .before .before .before .before .before .before .before .before .before .before .before .before .before))), c .before .before .before .before .before .before .before .before .before .before .before .before .before .before .before .before .before .before .before .before .before .before .before .before .before .before .before .before .before .before .before .before .before .before .before .before .before .before .call .inv .few-taken, here (c .before .before .before .before .before .before .before .before .before .before .before .before .before .before .before .before .before .before .before .before .before .before .before .before .before .before .before .before .before .before .before .before .before .before .before .before .before), few-spans (c .before .before .before .before .before .before .before .before .before .before .before .before .before .before .before .before .before .before .before .before .before .before .before .before .before .before .before .before .before .before .before .before .before .before .before .before .before .before))
+    let turned = c .before .before .before .before .before .before .before .before .before .before .before .before .before in
+    let took = turned .before .before in
+    let item = i took in
+    let more = i-more item in
+    let head = more .before in
+    let few = ended-few (walking item) (ends took (turned .turn2 .given .1)) in
+    omega (
+      arith,
+      room-small,
+      few .taken,
+      few-edges _ (ready head) _ (lent (walking item)),
+      head .call .inv .few-taken,
+      here more,
+      few-spans head,
+    )
 
 add-at : tie.Need-add-at Inv-items μ-items Inv-call μ-call
-add-at c = omega (arith, here (c .before .before .before .before .before .before .before .before .before .before .before .before .before .before .before .before .before .before .before .before .before .before .before .before .before .before .before .before .before .before .before .before .before .before .before .before .before), few-spans (c .before .before .before .before .before .before .before .before .before .before .before .before .before .before .before .before .before .before .before .before .before .before .before .before .before .before .before .before .before .before .before .before .before .before .before .before .before .before))
+add-at c =
+    let took = c .before .before .before .before .before .before .before .before .before .before .before .before .before .before .before in
+    let more = i-more (i took) in
+    let head = more .before in
+    omega (arith, here more, few-spans head)
 
 call-less : tie.Need-call-less Inv-items μ-items Inv-call μ-call
-call-less c = omega (arith, here (c .before .before .before .before .before .before .before .before .before .before .before .before .before .before .before .before .before .before .before .before .before .before .before .before .before .before .before .before .before .before .before .before .before .before .before .before .before), counted (c .before .before .before .before .before .before .before .before .before .before .before .before .before .before .before .before .before .before .before .before .before .before .before .before .before .before .before .before .before .before .before .before .before .before .before .before .before .before))
+call-less c =
+    let took = c .before .before .before .before .before .before .before .before .before .before .before .before .before .before .before in
+    let more = i-more (i took) in
+    let head = more .before in
+    omega (arith, here more, counted head)
 
 call-again : tie.Need-call-again Inv-items μ-items Inv-call μ-call
 call-again c =
-    let W = walking (c .before .before .before .before .before .before .before .before .before .before .before .before .before .before .before .before .before .before .before .before .before .before) in
-    let g = ends (c .before .before .before .before .before .before .before .before .before .before .before .before .before .before .before) (c .before .before .before .before .before .before .before .before .before .before .before .before .before .turn2 .given .1) in
+    let closing = c .before .before .before .before .before .before .before .before in
+    let turned = closing .before .before .before .before .before in
+    let took = turned .before .before in
+    let item = i took in
+    let at-room = i-open item in
+    let more = i-more item in
+    let head = more .before in
+    let W = walking item in
+    let g = ends took (turned .turn2 .given .1) in
     let few = ended-few W g in
-    let closed = closed-well (c .before .before .before .before .before .before .before .before .close-chunk .ensures) (c .before .before .enum-told .given .1) in
-    judging-passes _ _ _ _ _ _ (c .before .before .before .before .before .before .before .before .before .before .before .before .before .before .before .before .before .before .before .before .before .before .before .before .before .before .before .before .before .before .before .before .before .before .before .before .before .before .call .inv) (here (c .before .before .before .before .before .before .before .before .before .before .before .before .before .before .before .before .before .before .before .before .before .before .before .before .before .before .before .before .before .before .before .before .before .before .before .before .before)) (span-there _ _ _ _ (here (c .before .before .before .before .before .before .before .before .before .before .before .before .before .before .before .before .before .before .before .before .before .before .before .before .before .before .before .before .before .before .before .before .before .before .before .before .before)))
-    (sym (judged (c .before .before .before .before .before .before .before .before .before .before .before .before .before .before .before .before .before .before .before .before .before .before .before .before .before .before) _) ∙ ended-judged W g _ ∙ passes-to _ (closed .low))
-    (omega (arith, code-small, few .reached, ready (c .before .before .before .before .before .before .before .before .before .before .before .before .before .before .before .before .before .before .before .before .before .before .before .before .before .before .before .before .before .before .before .before .before .before .before .before .before .before) .listable .small)) (omega (arith, room-small, few .taken, few-edges _ (ready (c .before .before .before .before .before .before .before .before .before .before .before .before .before .before .before .before .before .before .before .before .before .before .before .before .before .before .before .before .before .before .before .before .before .before .before .before .before .before)) _ (lent (walking (c .before .before .before .before .before .before .before .before .before .before .before .before .before .before .before .before .before .before .before .before .before .before))))) (closed .stored)
-    (ended-records W g (records-kept (c .before .before .before .before .before .before .before .before .before .before .before .before .before .before .before) ∙ W .records-long) (c .before .before .before .before .before .before .before .before .close-chunk .ensures .records-zeroed))
-    (ended-work W g (work-kept (c .before .before .before .before .before .before .before .before .before .before .before .before .before .before .before) ∙ W .work-long))
+    let closed = closed-well (closing .close-chunk .ensures) (c .before .before .enum-told .given .1) in
+    judging-passes _ _ _ _ _ _ (head .call .inv) (here more) (span-there _ _ _ _ (here more))
+    (sym (judged at-room _) ∙ ended-judged W g _ ∙ passes-to _ (closed .low))
+    (omega (arith, code-small, few .reached, ready head .listable .small))
+    (omega (arith, room-small, few .taken, few-edges _ (ready head) _ (lent (walking item)))) (closed .stored)
+    (ended-records W g (records-kept took ∙ W .records-long) (closing .close-chunk .ensures .records-zeroed))
+    (ended-work W g (work-kept took ∙ W .work-long))
 
 returns-2 : tie.Need-returns-2 Inv-items μ-items Inv-call μ-call
 returns-2 c =
-    let refused = opens-refused _ _ _ _ _ _ _ (opens (c .before .before .before .before .before .before .before) _) (c .before .opened .given .1) in
-    judging-fails _ _ _ _ _ _ (c .before .before .before .before .before .before .before .before .before .before .before .before .before .call .inv) (here (c .before .before .before .before .before .before .before .before .before .before .before .before)) (span-there _ _ _ _ (here (c .before .before .before .before .before .before .before .before .before .before .before .before))) (judged-shut _ _ _ _ (refused .tested)) refl (refused .records-cleared) (refused .work-cleared)
+    let asked = c .before .before .before .before .before .before .before in
+    let more = asked .before .before .before .before .before in
+    let head = more .before in
+    let refused = opens-refused _ _ _ _ _ _ _ (opens asked _) (c .before .opened .given .1) in
+    judging-fails _ _ _ _ _ _ (head .call .inv) (here more) (span-there _ _ _ _ (here more))
+    (judged-shut _ _ _ _ (refused .tested)) refl (refused .records-cleared) (refused .work-cleared)
 
 same-length-4 : tie.Need-same-length-4 Inv-items μ-items Inv-call μ-call
 same-length-4 c = search needs
@@ -295,13 +449,23 @@ same-length-6 c = ap length (returns-2 c .work-zero) ∙ length-replicate _ 0
 
 returns-3 : tie.Need-returns-3 Inv-items μ-items Inv-call μ-call
 returns-3 c =
-    let W = walking (c .before .before .before .before .before .before .before .before .before .before .before .before .before .before .before .before .before) in
-    let stopped = stops (c .before .before .before .before .before .before .before .before .before .before) (c .before .before .before .before .before .before .before .before .turn3 .given .1) in
-    let zero = stopped-zero W (stopped .same-records) (stopped .same-work) (c .before .before .before .before .abandon .ensures) in
-    judging-fails _ _ _ _ _ _ (c .before .before .before .before .before .before .before .before .before .before .before .before .before .before .before .before .before .before .before .before .before .before .before .before .before .before .before .before .before .before .before .before .before .call .inv) (here (c .before .before .before .before .before .before .before .before .before .before .before .before .before .before .before .before .before .before .before .before .before .before .before .before .before .before .before .before .before .before .before .before)) (span-there _ _ _ _ (here (c .before .before .before .before .before .before .before .before .before .before .before .before .before .before .before .before .before .before .before .before .before .before .before .before .before .before .before .before .before .before .before .before))) (sym (judged (c .before .before .before .before .before .before .before .before .before .before .before .before .before .before .before .before .before .before .before .before .before) _) ∙ stopped-judged W (stopped .turned) _) refl (zero .0) (zero .1)
+    let abandoned = c .before .before .before .before in
+    let turned = abandoned .before .before .before .before in
+    let took = turned .before .before in
+    let item = i took in
+    let at-room = i-open item in
+    let more = i-more item in
+    let head = more .before in
+    let W = walking item in
+    let stopped = stops took (turned .turn3 .given .1) in
+    let zero = stopped-zero W (stopped .same-records) (stopped .same-work) (abandoned .abandon .ensures) in
+    judging-fails _ _ _ _ _ _ (head .call .inv) (here more) (span-there _ _ _ _ (here more))
+    (sym (judged at-room _) ∙ stopped-judged W (stopped .turned) _) refl (zero .0) (zero .1)
 
 same-length-7 : tie.Need-same-length-7 Inv-items μ-items Inv-call μ-call
-same-length-7 c = c .before .before .before .before .before .before .before .before .before .before .before .before .before .before .before .before .before .before .before .before .before .before .before .before .before .before .before .before .before .before .before .before .before .call .inv .long
+same-length-7 c =
+    let took = c .before .before .before .before .before .before .before .before .before .before in
+    i-head (i took) .call .inv .long
 
 same-length-8 : tie.Need-same-length-8 Inv-items μ-items Inv-call μ-call
 same-length-8 c = ap length (returns-3 c .records-zero) ∙ length-replicate _ 0
@@ -311,16 +475,27 @@ same-length-9 c = ap length (returns-3 c .work-zero) ∙ length-replicate _ 0
 
 returns-4 : tie.Need-returns-4 Inv-items μ-items Inv-call μ-call
 returns-4 c =
-    let W = walking (c .before .before .before .before .before .before .before .before .before .before .before .before .before .before .before .before .before .before .before .before .before) in
-    let g = ends (c .before .before .before .before .before .before .before .before .before .before .before .before .before .before) (c .before .before .before .before .before .before .before .before .before .before .before .before .turn2 .given .1) in
-    let above = closed-above (c .before .before .before .before .before .before .before .close-chunk .ensures) (c .before .closed .given .1) in
-    judging-fails _ _ _ _ _ _ (c .before .before .before .before .before .before .before .before .before .before .before .before .before .before .before .before .before .before .before .before .before .before .before .before .before .before .before .before .before .before .before .before .before .before .before .before .before .call .inv) (here (c .before .before .before .before .before .before .before .before .before .before .before .before .before .before .before .before .before .before .before .before .before .before .before .before .before .before .before .before .before .before .before .before .before .before .before .before)) (span-there _ _ _ _ (here (c .before .before .before .before .before .before .before .before .before .before .before .before .before .before .before .before .before .before .before .before .before .before .before .before .before .before .before .before .before .before .before .before .before .before .before .before)))
-    (sym (judged (c .before .before .before .before .before .before .before .before .before .before .before .before .before .before .before .before .before .before .before .before .before .before .before .before .before) _) ∙ ended-judged W g _ ∙ fails-by _ (above .high)) (above .kept)
-    (ended-records W g (records-kept (c .before .before .before .before .before .before .before .before .before .before .before .before .before .before) ∙ W .records-long) (c .before .before .before .before .before .before .before .close-chunk .ensures .records-zeroed))
-    (ended-work W g (work-kept (c .before .before .before .before .before .before .before .before .before .before .before .before .before .before) ∙ W .work-long))
+    let closing = c .before .before .before .before .before .before .before in
+    let turned = closing .before .before .before .before .before in
+    let took = turned .before .before in
+    let item = i took in
+    let at-room = i-open item in
+    let more = i-more item in
+    let head = more .before in
+    let W = walking item in
+    let g = ends took (turned .turn2 .given .1) in
+    let above = closed-above (closing .close-chunk .ensures) (c .before .closed .given .1) in
+    judging-fails _ _ _ _ _ _ (head .call .inv) (here more) (span-there _ _ _ _ (here more))
+    (sym (judged at-room _) ∙ ended-judged W g _ ∙ fails-by _ (above .high)) (above .kept)
+    (ended-records W g (records-kept took ∙ W .records-long) (closing .close-chunk .ensures .records-zeroed))
+    (ended-work W g (work-kept took ∙ W .work-long))
 
 same-length-10 : tie.Need-same-length-10 Inv-items μ-items Inv-call μ-call
-same-length-10 c = ap length (closed-above (c .before .before .before .before .before .before .before .close-chunk .ensures) (c .before .closed .given .1) .kept) ∙ c .before .before .before .before .before .before .before .before .before .before .before .before .before .before .before .before .before .before .before .before .before .before .before .before .before .before .before .before .before .before .before .before .before .before .before .before .before .call .inv .long
+same-length-10 c =
+    let closing = c .before .before .before .before .before .before .before in
+    let took = closing .before .before .before .before .before .before .before in
+    ap length (closed-above (closing .close-chunk .ensures) (c .before .closed .given .1) .kept)
+    ∙ i-head (i took) .call .inv .long
 
 same-length-11 : tie.Need-same-length-11 Inv-items μ-items Inv-call μ-call
 same-length-11 c = ap length (returns-4 c .records-zero) ∙ length-replicate _ 0

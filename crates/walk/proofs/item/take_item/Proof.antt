@@ -5,14 +5,14 @@ use borrow.Author.Needs.{needs}
 use denote.Ref.{now}
 use lib.ListN.{length}
 use Prim.Native.Nat.{_^_, _<_}
-use Rattle.demand.specs.Rule.{machine}
+use Rattle.demand.specs.Chunk.{machine}
 use Rattle.rules.specs.Script.{Script}
 use Rattle.machine.specs.Walk.{seen}
 use Rattle.rules.specs.FromLists.{script}
 use Rattle.words.specs.Seen.{seenTold}
 use Rattle.walk.specs.declared.Hand.{Hand}
 use Rattle.walk.specs.Records.{seenStore}
-use Rattle.walk.specs.Turn.{AtItem, roomSpan}
+use Rattle.walk.specs.Turn.{roomSpan, AtItem}
 use Rattle.walk.proofs.Taking.{stopped, off-turn, dropped-took, clash-turn}
 use Rattle.walk.proofs.Turns.{rises, keys-room, notes-room, waits-room, taken-fits, seen-so}
 use Rattle.walk.proofs.item.take_item.Statement.{statement}
