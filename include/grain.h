@@ -3,6 +3,7 @@
  *
  * One call of grain_verify decides about a whole script: its code, its tables and its chunks. It is
  * proved to answer any input, to end, and to touch nothing but the four buffers lent to it.
+ * grain_item_at lists code, one instruction at a time, for people and for tools.
  * README.md says how to build and link the library, docs/PROMISES.md what is proved of it.
  *
  * What is left to the caller's word, since no callee can test it:
@@ -275,6 +276,35 @@ grain_verdict grain_verify(
     uint16_t *heights, size_t heights_len,
     uint32_t *records, size_t records_len,
     uint32_t *work, size_t work_len);
+
+/* ---- The listing ---------------------------------------------------------------------------- */
+
+/* What stands at an offset of the code. */
+enum {
+    /* An instruction. */
+    GRAIN_ITEM_INSTRUCTION = 0,
+    /* The code's end: the offset is past its last byte. */
+    GRAIN_ITEM_END = 1,
+    /* A byte without a width: an unknown tag, or operands cut off. */
+    GRAIN_ITEM_NO_WIDTH = 2
+};
+
+/* One item of the listing. What its kind has no use for is 0. */
+typedef struct grain_item {
+    uint32_t kind;  /* GRAIN_ITEM_* */
+    uint32_t tag;   /* of an instruction, its first byte */
+    uint64_t at;    /* its offset; 0 for GRAIN_ITEM_END */
+    uint64_t width; /* of an instruction, how many bytes it has, operands included */
+    uint64_t next;  /* of an instruction, the offset after it */
+} grain_item;
+typedef char grain_item_has_32_bytes[sizeof(grain_item) == 32 ? 1 : -1];
+
+/*
+ * What stands at an offset, which may be any: code beyond GRAIN_MAX_CODE is listed too. From offset 0
+ * on, with each instruction's next as the next offset, the calls list the code's instructions in turn,
+ * and end in one of the other two kinds. Nothing is lent, and nothing is stored.
+ */
+grain_item grain_item_at(const uint8_t *code, size_t code_len, size_t at);
 
 /* ---- How much to lend ----------------------------------------------------------------------- */
 

@@ -1,4 +1,4 @@
-//! The call itself: the one place that names the library's export, and the one that is not safe.
+//! The call itself: the one place that names the library's verifier, and one of the two that are not safe.
 
 use crate::{Chunk, Script};
 

@@ -30,6 +30,7 @@
 //! - [`Accepted`], [`Refusal`], [`Kind`]: the answer.
 //! - [`verify_in`], [`Lent`], [`Verdict`]: the same for callers who keep their own memory and take
 //!   the answer in numbers.
+//! - [`item_at`], [`instructions`], [`Listed`]: the listing, for people and for tools.
 //!
 //! `include/grain.h` says what each number means. The library is linked statically and has to be
 //! built before: `rt staticlib grain`.
@@ -42,12 +43,14 @@ compile_error!("the proved library is for machines with 64-bit sizes");
 
 mod call;
 mod kind;
+mod listing;
 mod room;
 mod script;
 mod workspace;
 
 pub use call::{verify_in, Lent, Verdict, NO_CHUNK};
 pub use kind::{Buffer, Kind, Limit, Pool, Table};
+pub use listing::{instructions, item_at, Instruction, Instructions, Listed};
 pub use room::Room;
 pub use script::{right, Chunk, Script};
 pub use workspace::Workspace;

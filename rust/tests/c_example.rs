@@ -1,4 +1,4 @@
-//! The header and the example in C, compiled with all warnings as errors, and run.
+//! The header and the examples in C, compiled with all warnings as errors, and run.
 
 use grain::Room;
 use std::io::Write;
@@ -43,6 +43,16 @@ fn the_example_in_c_answers_as_expected() {
     let output = Command::new(program).output().expect("it was just made");
     let expected = "01 07: accepted, height 1, instructions 2, reached 2, taken 2\n\
                     07: refused, kind 12, chunk 0, at 0, p 1, q 0\n";
+    assert_eq!(written(output), expected);
+}
+
+#[test]
+fn the_listing_in_c_is_as_expected() {
+    let program = compiled("examples/list_script.c", "list_script");
+    let output = Command::new(program).output().expect("it was just made");
+    let expected = "01 24 02 00 07:\n  0: tag 0x01, width 1\n  1: tag 0x24, width 3\n  \
+                    4: tag 0x07, width 1\n  5: the end\n\
+                    01 24 02:\n  0: tag 0x01, width 1\n  1: no width\n";
     assert_eq!(written(output), expected);
 }
 

@@ -1,5 +1,8 @@
-//! The example, run.
+//! The examples, run.
 
+#[path = "../examples/list_script.rs"]
+#[allow(dead_code)]
+mod list_script;
 #[path = "../examples/verify_script.rs"]
 #[allow(dead_code)]
 mod verify_script;
@@ -14,4 +17,17 @@ fn the_example_answers_as_expected() {
         "refused, chunk 0: at 0: operands lack, 1 needed and 0 there",
     ];
     assert_eq!(answers, expected);
+}
+
+#[test]
+fn the_listing_is_as_expected() {
+    let listings = list_script::SCRIPTS.map(list_script::listing);
+    let whole: &[&str] = &[
+        "0: tag 0x01, width 1",
+        "1: tag 0x24, width 3",
+        "4: tag 0x07, width 1",
+        "5: the end",
+    ];
+    let cut: &[&str] = &["0: tag 0x01, width 1", "1: no width"];
+    assert_eq!(listings, [whole, cut]);
 }

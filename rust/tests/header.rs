@@ -78,6 +78,14 @@ fn every_value_with_a_name_has_one_number() {
 }
 
 #[test]
+fn every_item_has_one_number() {
+    for (number, name) in ["INSTRUCTION", "END", "NO_WIDTH"].iter().enumerate() {
+        let name = format!("GRAIN_ITEM_{name}");
+        assert!(defines(&name, number as u64), "{name} is not {number}");
+    }
+}
+
+#[test]
 fn every_right_has_one_bit() {
     for (name, word) in right::ALL {
         let bit = word.trailing_zeros();

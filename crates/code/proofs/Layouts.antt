@@ -15,6 +15,7 @@ use Rattle.code.specs.TagLists.{widths}
 use Rattle.code.specs.Width.{widthOf}
 use Rattle.code.proofs.ByTag.{tagsOf, once, row-holds}
 use Rattle.code.proofs.Table.{each}
+use Rattle.code.specs.Sizes.{size}
 
 abbrev upward : ℕ → ℕ → List ℕ
 upward zero from = []
@@ -39,14 +40,6 @@ pub layout-row : {row : Row (List Field)} → List·Memᴰ row layouts → (tag 
     → layout tag ≡ row .says
 unfolding layout once tagsOf
 layout-row = row-holds layouts [] tt
-
--- how many bytes a field takes, and fields together
-abbrev size : Field → ℕ
-size target = 4
-size count8 = 1
-size count16 = 2
-size slot = 2
-size (index pool) = 2
 
 unfoldable pub sizes : List Field → ℕ
 sizes [] = 0

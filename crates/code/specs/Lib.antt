@@ -4,3 +4,4 @@ pub mod Layout
 pub mod Answers
 pub mod TagLists
 pub mod Rows
+pub mod Sizes

@@ -7,6 +7,9 @@ ghost use lib.ListN.{length};
 ghost use Rattle.before.specs.Parameters.{input};
 ghost use Rattle.verify.specs.Call.{Calls};
 ghost use Rattle.grain.specs.Chunks.{spansFrom};
+
+pub mod item;
+
 use answer::verdict::Verdict;
 use verify::stages;
 

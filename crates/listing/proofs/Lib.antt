@@ -4,5 +4,3 @@ pub mod Marked
 pub mod Before
 pub mod Items
 pub mod Once
-pub mod Reading
-pub mod Returned

@@ -3,9 +3,6 @@
 // then the ending. What an instruction does is left to `rules`.
 ghost use mathlib.Core.Path.{_≡_};
 ghost use Rattle.listing.specs.Listing.{itemTold, listedAt};
-
-pub mod reader;
-
 use code::Width;
 
 // An instruction: its offset, tag and width, and the offset after it.
