@@ -11,10 +11,7 @@ pub struct Context {
 
 impl Context {
     pub fn new(entries: Vec<String>, locals: &[String]) -> Context {
-        let mut context = Context {
-            entries: Vec::new(),
-            locals: locals.to_vec(),
-        };
+        let mut context = Context { entries: Vec::new(), locals: locals.to_vec() };
         context.became(0, &entries);
         context
     }
@@ -61,28 +58,23 @@ impl Context {
     }
 
     fn positions(&self, names: &[String]) -> String {
-        let of = |names: &[String]| {
-            names
-                .iter()
-                .map(|name| self.at(name).to_string())
-                .collect::<Vec<_>>()
+        let numbers: Vec<usize> = names.iter().map(|name| self.at(name)).collect();
+        let texts: Vec<String> = numbers.iter().map(usize::to_string).collect();
+        let Some(start) = self.locals_among(names) else {
+            return text::list(texts);
         };
-        let start = |len: usize| names.windows(len).position(|run| run == self.locals);
-        let Some(start) = Some(self.locals.len())
-            .filter(|&len| len > 0)
-            .and_then(start)
-        else {
-            return text::list(of(names));
-        };
-        let run = format!("locals-at {}", self.at(&names[start]));
-        let before = of(&names[..start]);
-        let behind = of(&names[start + self.locals.len()..]);
-        let end = if behind.is_empty() {
-            run
-        } else {
-            format!("{run} ++ ({})", text::list(behind))
-        };
-        text::ended("∷", before, &end)
+        let end = start + self.locals.len();
+        assert!(numbers[start..end].windows(2).all(|two| two[0] + 1 == two[1]), "the locals stand apart");
+        let run = format!("locals-at {}", numbers[start]);
+        let behind = text::list(&texts[end..]);
+        let run = if end < names.len() { format!("{run} ++ ({behind})") } else { run };
+        text::ended("∷", &texts[..start], &run)
+    }
+
+    /// Where all locals stand in a row among these names.
+    fn locals_among(&self, names: &[String]) -> Option<usize> {
+        let starts = 0..names.len();
+        starts.into_iter().find(|&start| !self.locals.is_empty() && names[start..].starts_with(&self.locals))
     }
 }
 
@@ -98,34 +90,25 @@ mod tests {
     #[test]
     fn entries_move_by_their_names() {
         let mut context = Context::new(named("a b c d"), &named("x y"));
-        assert_eq!(
-            laid_out(&context.first(&named("d b"))),
-            "move ! (3 ∷ 1 ∷ []) $\n"
-        );
+        assert_eq!(laid_out(&context.first(&named("d b"))), "move ! (3 ∷ 1 ∷ []) $\n");
         assert_eq!(context.group(2, "db"), "group ! 2 $");
         assert_eq!(context.spread(&named("d b e")), "spread ! 2 $");
-        assert_eq!(
-            laid_out(&context.only(&named("c e"))),
-            "keep ! (4 ∷ 2 ∷ []) $\n"
-        );
+        assert_eq!(laid_out(&context.only(&named("c e"))), "keep ! (4 ∷ 2 ∷ []) $\n");
         assert_eq!(context.at("e"), 1);
     }
 
     #[test]
     fn all_locals_in_a_row_are_named_at_once() {
         let mut context = Context::new(named("a x y b"), &named("x y"));
-        assert_eq!(
-            laid_out(&context.first(&named("x y"))),
-            "move ! (locals-at 1) $\n"
-        );
-        assert_eq!(
-            laid_out(&context.first(&named("b x y"))),
-            "move ! (3 ∷ locals-at 0) $\n"
-        );
-        assert_eq!(
-            laid_out(&context.only(&named("x y a"))),
-            "keep ! (locals-at 1 ++ (3 ∷ [])) $\n"
-        );
+        assert_eq!(laid_out(&context.first(&named("x y"))), "move ! (locals-at 1) $\n");
+        assert_eq!(laid_out(&context.first(&named("b x y"))), "move ! (3 ∷ locals-at 0) $\n");
+        assert_eq!(laid_out(&context.only(&named("x y a"))), "keep ! (locals-at 1 ++ (3 ∷ [])) $\n");
+    }
+
+    #[test]
+    #[should_panic(expected = "the locals stand apart")]
+    fn locals_that_stand_apart_are_not_named_at_once() {
+        Context::new(named("x a y"), &named("x y")).first(&named("x y"));
     }
 
     #[test]

@@ -13,6 +13,7 @@
 //! | `text` | lists and tuples as antt writes them, and lines broken where they may be |
 //! | `template` | a text with holes, filled |
 //! | `context` | a walk's context by names, so that no position is counted by hand |
+//! | `walk` | a walk followed step by step, with a hole for each step that names positions |
 //! | `parameter` | what a parameter of each sort is to the program logic |
 
 pub mod context;
@@ -20,6 +21,7 @@ pub mod grain_verify;
 pub mod parameter;
 pub mod template;
 pub mod text;
+pub mod walk;
 
 use std::path::{Path, PathBuf};
 
@@ -32,16 +34,11 @@ pub struct File {
 
 impl File {
     pub fn path(&self) -> PathBuf {
-        Path::new(env!("CARGO_MANIFEST_DIR"))
-            .join("..")
-            .join(self.place)
+        Path::new(env!("CARGO_MANIFEST_DIR")).join("..").join(self.place)
     }
 }
 
 /// Every printed file.
 pub fn files() -> Vec<File> {
-    vec![File {
-        place: "crates/grain/proofs/grain_verify/Proof.antt",
-        text: grain_verify::proof(),
-    }]
+    vec![File { place: "crates/grain/proofs/grain_verify/Proof.antt", text: grain_verify::proof() }]
 }

@@ -56,6 +56,18 @@ pub enum Sort {
     Buffer(Width),
 }
 
+impl Sort {
+    /// Its type in Rattle.
+    pub fn rattle(self) -> String {
+        match self {
+            Sort::Number(width) => width.row().to_string(),
+            Sort::Shared(width) => format!("&[{}]", width.row()),
+            Sort::Records(_, record) => format!("&[{record}]"),
+            Sort::Buffer(width) => format!("&mut [{}]", width.row()),
+        }
+    }
+}
+
 /// A parameter, at its place.
 #[derive(Clone)]
 pub struct Parameter {
@@ -71,11 +83,7 @@ pub fn in_order<'a>(given: impl IntoIterator<Item = (&'a str, Sort)>) -> Vec<Par
     let mut references = 0;
     let mut parameters = Vec::new();
     for (name, sort) in given {
-        let parameter = Parameter {
-            name: name.replace('_', "-"),
-            sort,
-            lifetime: references,
-        };
+        let parameter = Parameter { name: name.replace('_', "-"), sort, lifetime: references };
         references += usize::from(parameter.is_reference());
         parameters.push(parameter);
     }
@@ -98,9 +106,7 @@ impl Parameter {
     /// A number's type, or that of a slice's elements.
     pub fn element(&self) -> String {
         match self.sort {
-            Sort::Number(width) | Sort::Shared(width) | Sort::Buffer(width) => {
-                width.row().to_string()
-            }
+            Sort::Number(width) | Sort::Shared(width) | Sort::Buffer(width) => width.row().to_string(),
             Sort::Records(module, _) => format!("{module}.the-row"),
         }
     }
@@ -123,10 +129,7 @@ impl Parameter {
         match self.sort {
             Sort::Number(width) => width.machine(),
             Sort::Shared(width) => format!("sliceTy (tyRef (named {n}) imm ({}))", width.machine()),
-            Sort::Records(..) => format!(
-                "sliceTy (tyRef (named {n}) imm (pointee ({} .written)))",
-                self.element()
-            ),
+            Sort::Records(..) => format!("sliceTy (tyRef (named {n}) imm (pointee ({} .written)))", self.element()),
             Sort::Buffer(width) => format!("sliceTy (tyRef (named {n}) mut ({}))", width.machine()),
         }
     }
@@ -153,10 +156,7 @@ impl Parameter {
         let name = &self.name;
         match self.sort {
             Sort::Number(width) => format!("({name}-fit : {name} < 2 ^ {})", width.bits()),
-            _ => format!(
-                "({name}-room : Room {} (length ({name} .now)))",
-                self.element()
-            ),
+            _ => format!("({name}-room : Room {} (length ({name} .now)))", self.element()),
         }
     }
 
@@ -231,10 +231,7 @@ pub fn slice_fits(name: &str) -> String {
 pub fn bound(parameters: &[Parameter]) -> Vec<String> {
     let runs = parameters.chunk_by(|one, next| one.denotes() == next.denotes());
     runs.map(|run| {
-        let names: Vec<&str> = run
-            .iter()
-            .map(|parameter| parameter.name.as_str())
-            .collect();
+        let names: Vec<&str> = run.iter().map(|parameter| parameter.name.as_str()).collect();
         format!("({} : {})", names.join(" "), run[0].denotes())
     })
     .collect()
@@ -246,31 +243,11 @@ mod tests {
 
     #[test]
     fn lifetimes_count_the_references() {
-        let sorts = [
-            Sort::Number(Width::U32),
-            Sort::Shared(Width::U8),
-            Sort::Number(Width::Usize),
-            Sort::Buffer(Width::U64),
-        ];
+        let sorts =
+            [Sort::Number(Width::U32), Sort::Shared(Width::U8), Sort::Number(Width::Usize), Sort::Buffer(Width::U64)];
         let parameters = in_order(["a", "b_b", "c", "d"].into_iter().zip(sorts));
         let rows: Vec<String> = parameters.iter().map(Parameter::row).collect();
-        assert_eq!(
-            rows,
-            [
-                "u32",
-                "ShrSlice (named 0) (κ 0) u8",
-                "usize",
-                "MutSlice (named 1) (κ 1) u64"
-            ]
-        );
-        assert_eq!(
-            bound(&parameters),
-            [
-                "(a : ℕ)",
-                "(b-b : RefT (List ℕ))",
-                "(c : ℕ)",
-                "(d : RefT (List ℕ))"
-            ]
-        );
+        assert_eq!(rows, ["u32", "ShrSlice (named 0) (κ 0) u8", "usize", "MutSlice (named 1) (κ 1) u64"]);
+        assert_eq!(bound(&parameters), ["(a : ℕ)", "(b-b : RefT (List ℕ))", "(c : ℕ)", "(d : RefT (List ℕ))"]);
     }
 }

@@ -17,10 +17,7 @@ impl Holes {
     /// The template with every hole filled. Panics where a hole has no text, or a text no hole.
     pub fn fill(&self, template: &str) -> String {
         let mut used = BTreeSet::new();
-        let lines: Vec<String> = template
-            .lines()
-            .map(|line| self.fill_line(line, &mut used))
-            .collect();
+        let lines: Vec<String> = template.lines().map(|line| self.fill_line(line, &mut used)).collect();
         let unused: Vec<&String> = self.0.keys().filter(|name| !used.contains(*name)).collect();
         assert!(unused.is_empty(), "no hole for {unused:?}");
         lines.join("\n") + "\n"
@@ -32,10 +29,7 @@ impl Holes {
         let mut rest = line;
         while let Some((before, behind)) = rest.split_once('⟨') {
             let (name, after) = behind.split_once('⟩').expect("a hole that is not closed");
-            let text = self
-                .0
-                .get(name)
-                .unwrap_or_else(|| panic!("no text for the hole {name}"));
+            let text = self.0.get(name).unwrap_or_else(|| panic!("no text for the hole {name}"));
             used.insert(name.to_string());
             filled.push_str(before);
             filled.push_str(&text.replace('\n', &format!("\n{indent}")));

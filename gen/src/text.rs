@@ -36,28 +36,19 @@ pub fn ended<S: AsRef<str>>(op: &str, items: impl IntoIterator<Item = S>, end: &
 
 /// `a b c`, which may be broken between any two.
 pub fn words<S: AsRef<str>>(items: impl IntoIterator<Item = S>) -> String {
-    let items: Vec<String> = items
-        .into_iter()
-        .map(|item| item.as_ref().to_string())
-        .collect();
+    let items: Vec<String> = items.into_iter().map(|item| item.as_ref().to_string()).collect();
     items.join(&BREAK.to_string())
 }
 
 /// One to a line.
 pub fn lines<S: AsRef<str>>(items: impl IntoIterator<Item = S>) -> String {
-    let items: Vec<String> = items
-        .into_iter()
-        .map(|item| item.as_ref().to_string())
-        .collect();
+    let items: Vec<String> = items.into_iter().map(|item| item.as_ref().to_string()).collect();
     items.join("\n")
 }
 
 /// `(op a (op b end))`, which may be broken before each bracket but the first.
 pub fn nest<S: AsRef<str>>(op: &str, items: impl IntoIterator<Item = S>, end: &str) -> String {
-    let opened: Vec<String> = items
-        .into_iter()
-        .map(|item| format!("({op} {}{BREAK}", item.as_ref()))
-        .collect();
+    let opened: Vec<String> = items.into_iter().map(|item| format!("({op} {}{BREAK}", item.as_ref())).collect();
     format!("{}{end}{}", opened.concat(), ")".repeat(opened.len()))
 }
 

@@ -7,19 +7,9 @@ fn committed_files_are_what_is_printed() {
     for file in gen::files() {
         let committed = std::fs::read_to_string(file.path()).expect(file.place);
         for (number, (committed, printed)) in committed.lines().zip(file.text.lines()).enumerate() {
-            assert_eq!(
-                committed,
-                printed,
-                "{} differs in line {}; print it again",
-                file.place,
-                number + 1
-            );
+            assert_eq!(committed, printed, "{} differs in line {}; print it again", file.place, number + 1);
         }
-        assert!(
-            committed == file.text,
-            "{} ends elsewhere; print it again",
-            file.place
-        );
+        assert!(committed == file.text, "{} ends elsewhere; print it again", file.place);
     }
 }
 
@@ -27,12 +17,7 @@ fn committed_files_are_what_is_printed() {
 fn no_printed_line_is_too_long() {
     for file in gen::files() {
         for (number, line) in file.text.lines().enumerate() {
-            assert!(
-                line.chars().count() <= WIDTH,
-                "{}: line {} is too long",
-                file.place,
-                number + 1
-            );
+            assert!(line.chars().count() <= WIDTH, "{}: line {} is too long", file.place, number + 1);
         }
     }
 }

@@ -8,7 +8,8 @@
 //!   Several words in backquotes are an example, and are not looked at.
 //! - A path with `::` leads to something that is declared where the path says.
 //! - Names in backquotes before "in" and a file, or the text of a link that stands on the page,
-//!   are words of that file. Before "in" and a crate the last name is one of the crate.
+//!   are declared in that file. Before "in" and a crate the last name is declared in the crate, or
+//!   is an edit of it.
 //! - Names in backquotes after "edit" or "edits", or in a column headed so, are must-fail edits.
 //! - A table of crates has a row for each crate of crates.txt, and for no other.
 //!
@@ -77,12 +78,12 @@ impl House {
             .collect()
     }
 
-    /// Whether a name is a word of a file, or of a folder's files, or the name of one.
+    /// Whether a file, or one of a folder's files, declares a name or has it as its own.
     fn stands_in(&self, name: &str, place: &str) -> bool {
         let files = self.sources_in(place);
         files
             .iter()
-            .any(|(path, text)| stem(path) == name || words_of(text).any(|word| word == name))
+            .any(|(path, text)| stem(path) == name || declares(path, text, name))
     }
 
     fn is_edit(&self, name: &str) -> bool {
@@ -124,18 +125,24 @@ fn narrowed<'a>(files: Vec<(&'a str, &'a str)>, name: &str) -> Vec<(&'a str, &'a
     let named = files.iter().any(|(path, _)| stem(path) == name);
     let keeps = |(path, text): &(&str, &str)| match named {
         true => stem(path) == name,
-        false => declares(text, name),
+        false => declares(path, text, name),
     };
     files.into_iter().filter(keeps).collect()
 }
 
-/// Whether a text of the sources declares a name.
-fn declares(text: &str, name: &str) -> bool {
+/// Whether a source declares a name: a definition begins a line of its own, and anything else
+/// stands behind a word that says what it is. In a header each word counts.
+fn declares(path: &str, text: &str, name: &str) -> bool {
     const BEFORE: [&str; 7] = ["fn", "struct", "enum", "const", "mod", "type", "trait"];
+    const MARKS: [&str; 6] = ["pub", "abbrev", "unfoldable", "record", "data", "module"];
+    if path.ends_with(".antt") {
+        let first = |line| words_of(line).find(|word| !MARKS.contains(word));
+        return text.lines().any(|line| first(line) == Some(name));
+    }
     let words: Vec<&str> = words_of(text).collect();
-    words
-        .windows(2)
-        .any(|pair| pair[1] == name && BEFORE.contains(&pair[0]))
+    let header = path.ends_with(".h") && words.contains(&name);
+    let behind = |pair: &[&str]| pair[1] == name && BEFORE.contains(&pair[0]);
+    header || words.windows(2).any(behind)
 }
 
 /// Whether a file is the one of this path, or lies in the folder of this path.
@@ -193,8 +200,8 @@ fn fits(word: &str, pattern: &str) -> bool {
 
 /// Whether what stands in backquotes is a name, a pattern or a path.
 fn is_name(quoted: &str) -> bool {
-    let fits = |letter: char| letter.is_alphanumeric() || "_-*:./".contains(letter);
-    quoted.chars().all(fits) && quoted.contains(char::is_alphabetic)
+    let allowed = |letter: char| letter.is_alphanumeric() || "_-*:./".contains(letter);
+    quoted.chars().all(allowed) && quoted.contains(char::is_alphabetic)
 }
 
 /// What stands in backquotes one after the other, with commas or an "and" between, and the text
@@ -276,7 +283,7 @@ impl<'a> Reader<'a> {
     }
 
     /// A link's target, seen from the root.
-    fn from_root(&self, target: &str) -> String {
+    fn seen_from_root(&self, target: &str) -> String {
         match (self.path.starts_with("docs/"), target.strip_prefix("../")) {
             (true, Some(path)) => path.to_string(),
             (true, None) => format!("docs/{target}"),
@@ -286,7 +293,7 @@ impl<'a> Reader<'a> {
 
     fn follow_links(&mut self, line: &'a str) {
         for (text, target) in links(line) {
-            let path = self.from_root(target);
+            let path = self.seen_from_root(target);
             self.demand(self.house.is_there(&path), "no such file", target);
             self.linked.entry(text).or_default().push(path);
         }
@@ -360,7 +367,9 @@ impl<'a> Reader<'a> {
     fn files_named(&self, text: &str) -> Vec<String> {
         if text.starts_with('[') {
             let first = links(text).into_iter().take(1);
-            return first.map(|(_, target)| self.from_root(target)).collect();
+            return first
+                .map(|(_, target)| self.seen_from_root(target))
+                .collect();
         }
         let mut files = Vec::new();
         for word in text.split([' ', ',']).filter(|word| !word.is_empty()) {
@@ -471,7 +480,7 @@ fn invented() -> House {
         ("crates/sums/src/digits.rt", "pub fn last_digit() {}\n"),
         (
             "crates/sums/specs/Sums.antt",
-            "totalOf adds-up MAKE_SUM_OF\n",
+            "use Tags.{MAKE_SUM_OF}\nabbrev pub totalOf : Sum\n  adds-up : Law\n",
         ),
         ("crates/sums/must-fail/first_skipped.edit", "\n"),
         (
@@ -485,7 +494,7 @@ fn invented() -> House {
 }
 
 /// Text for docs/PAGE.md, and how many complaints it has to give.
-const TRIED: [(&str, usize); 33] = [
+const TRIED: [(&str, usize); 34] = [
     ("[Sums](../crates/sums/specs/Sums.antt)", 0),
     ("[Sums](../crates/sums/specs/Terms.antt)", 1),
     ("[other](OTHER.md#part) [web](https://example.org/x)", 0),
@@ -515,6 +524,7 @@ const TRIED: [(&str, usize); 33] = [
         "`adds-up`, `rows_of` in [Sums](../crates/sums/specs/Sums.antt)",
         1,
     ),
+    ("`MAKE_SUM_OF` in crates/sums/specs/Sums.antt.", 1),
     ("`rows_of` in crates/sums/specs/Sums.antt.", 1),
     (
         "[Sums](../crates/sums/specs/Sums.antt): `rows_of` in Sums",
@@ -554,9 +564,9 @@ const TRIED: [(&str, usize); 33] = [
 #[test]
 fn what_is_not_there_is_found() {
     let house = invented();
-    for (text, least) in TRIED {
+    for (text, count) in TRIED {
         let (_, complaints) = read_page(&house, "docs/PAGE.md", text);
-        assert_eq!(complaints.len(), least, "{text}: {complaints:?}");
+        assert_eq!(complaints.len(), count, "{text}: {complaints:?}");
     }
 }
 

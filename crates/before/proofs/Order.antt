@@ -7,17 +7,17 @@ use Prim.Native.Nat.{ℕ, _+_, _/_, _≤_}
 use native.Mathlib.Omega.{arith}
 use borrow.Author.Tests.{eqb-true, ltb-false}
 use lib.Dec.{ltb, eqb}
-use Rattle.indices.specs.Indices.{Sound, tables}
+use Rattle.indices.specs.Checks.{tables, Sound}
 use Rattle.indices.specs.declared.Sizes as counted
-use Rattle.pools.specs.Good.{GoodTables}
+use Rattle.pools.specs.Good.{GoodTables, Within}
 use Rattle.pools.specs.Pools.{chainsIn, switchesIn}
-use Rattle.pools.specs.Sizes.{firstExceeded, Within}
-use Rattle.pools.specs.Tables.{firstBad}
+use Rattle.pools.specs.Sizes.{firstExceeded}
+use Rattle.pools.specs.Tables.{firstBadTable}
 use Rattle.pools.specs.declared.limits.Sizes.{Sizes}
 use Rattle.pools.proofs.LimitLaws.{kept-within}
 use Rattle.pools.proofs.TableLaws.{passed-good, chains-within, switches-within}
 use Rattle.answer.specs.declared.Answer.the-variants.{TooLarge, BadTable, NoRoom}
-use Rattle.before.specs.Before.{limitsTest, tablesTest, roomTest, earlyTests}
+use Rattle.before.specs.Before.{limitsTest, tablesTest, lentTest, earlyTests}
 use Rattle.before.proofs.Tests.{both, not-refused}
 
 -- ---- what each test before any store establishes
@@ -32,12 +32,12 @@ good-tables : (chains steps switches cases ranges : List ℕ) → tablesTest cha
     → GoodTables chains steps switches cases ranges
 unfolding tablesTest
 good-tables chains steps switches cases ranges e =
-    let found = firstBad chains steps switches cases ranges in
+    let found = firstBadTable chains steps switches cases ranges in
     passed-good chains steps switches cases ranges
     (eqb-true _ 0 (not-refused (eqb (found .kind) 0) (BadTable (found .p) (found .q)) e))
 
-enough : (needed lent buffer : ℕ) → roomTest needed lent buffer ≡ none → needed ≤ lent
-unfolding roomTest
+enough : (needed lent buffer : ℕ) → lentTest needed lent buffer ≡ none → needed ≤ lent
+unfolding lentTest
 enough needed lent buffer e = go (ltb lent needed) refl e
   where
     go : (b : Bool) → ltb lent needed ≡ b → cond b (some (NoRoom needed buffer)) none ≡ none → needed ≤ lent

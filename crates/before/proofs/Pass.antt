@@ -1,5 +1,5 @@
--- The first pass in plain terms: what one instruction comes to, what holds before each turn of the loop, and what a turn and
--- each way out make of it.
+-- The first pass in plain terms: what one instruction comes to, what holds before each turn of the loop, and what a
+-- turn and each way out make of it.
 use mathlib.Core.Bool.{Bool, true, false, cond}
 use mathlib.Core.List.{List, [], _∷_}
 use mathlib.Core.Option.{none, some}
@@ -9,78 +9,83 @@ use native.Mathlib.Omega.{arith}
 use borrow.Author.Tests.{le-leb, lt-leb, ne-eqb, eqb-true, eqb-false}
 use lib.Dec.{eqb}
 use lib.ListN.{length, replicate, length-replicate}
-use Rattle.code.specs.Told.{Told, found, without}
-use Rattle.code.specs.Width.{widthOf, toldAt, widthAt}
-use Rattle.code.proofs.Widths.{wide, width-there, told-past, told-byte}
-use Rattle.indices.specs.Indices as reference
-use Rattle.indices.specs.Indices.{Tables, sizeOf, refs, into, fine, bad, firstBad}
+use Rattle.code.specs.Answers.{found, without, toldAt}
+use Rattle.code.specs.Width.{widthOf, widthAt}
+use Rattle.code.proofs.Widths.{wide, width-there, told-width, told-past, told-byte}
+use Rattle.pools.specs.Told.{Told, fine}
+use Rattle.indices.specs.Indices.{Tables, sizeOf, refs, into, badRef, firstBadRef}
 use Rattle.indices.specs.declared.Sizes.{Sizes}
-use Rattle.listing.specs.Listing.{startsBy, starts}
+use Rattle.listing.specs.Starts.{startsBy, starts}
 use Rattle.listing.proofs.WalkLaws.{walk-on, walk-stop}
 use Rattle.listing.proofs.Starts.{all-within, starts-on, starts-stop}
 use Rattle.marks.specs.Marks.{marked, markedAll}
 use Rattle.marks.proofs.Laws.{length-marked}
 use Rattle.answer.specs.declared.Answer.{Answer}
 use Rattle.answer.specs.declared.Answer.the-variants.{Undecodable, BadIndex}
-use Rattle.answer.specs.Answer.{told}
+use Rattle.answer.specs.Answer.{told, unless}
 use Rattle.before.specs.Before.{Test, first, indicesTest, widthTest, codeTest}
-use Rattle.before.specs.Memory.{Prepared, marksOf}
-use Rattle.before.specs.Pass.{unless, turnAt, marksTurned, Turned}
+use Rattle.before.specs.Calls.{Prepared}
+use Rattle.before.specs.Before.{marksOf}
+use Rattle.before.specs.Pass.{turnAt, marksTurned, Turned}
 use Rattle.answer.specs.declared.Outcome.{Outcome}
 use Rattle.answer.specs.declared.Outcome.the-variants as outcome
 use Rattle.before.specs.declared.Turn.{Turn}
 use Rattle.before.specs.declared.Turn.the-variants.{Next, Done, Refused}
 use Rattle.before.proofs.Tests.{last}
 
--- the width that is told, which is more than 0
-value : (code : List ℕ) (at : ℕ) {t : Told} → t ≡ toldAt code at → widthAt code at ≡ t .value
-value code at e = sym (ap (λ (t : Told). t .value) e)
-
+-- a width that is told is more than 0
 pub there : (code : List ℕ) (at w : ℕ) → found w ≡ toldAt code at → 0 < widthAt code at
-there code at w e = rw (value code at e) (wide widthOf code at w e .some)
+there code at w e = rw (told-width widthOf code at e) (wide widthOf code at w e .some)
 
 -- a turn, and what marks hold with it
-pub turned : {turn r : Turn} → r ≡ turn → (at : ℕ) (before : List ℕ) {after : List ℕ} → after ≡ marksTurned before at r → Turned turn at before r after
+pub turned : {turn r : Turn} → r ≡ turn → (at : ℕ) (before : List ℕ) {after : List ℕ} → after ≡ marksTurned before at r
+    → Turned turn at before r after
 turned e at before m = record { turns = e; marks = m ∙ ap (marksTurned before at) e }
 
 module _ (sizes : Sizes) (records : Tables) (code : List ℕ) where
   -- what the check of an instruction's indices tells
-  abbrev checked : ℕ → reference.Told
-  checked at = firstBad (sizeOf sizes) (refs records code at)
+  abbrev checked : ℕ → Told
+  checked at = firstBadRef (sizeOf sizes) (refs records code at)
 
   -- ---- one instruction, from what is told of its width and its indices
 
   module _ (at : ℕ) where
     pub passed : (w : ℕ) → found w ≡ toldAt code at → fine ≡ checked at → Next (at + w) ≡ turnAt sizes records code at
-    unfolding turnAt indicesTest
-    passed w e f = rw (value code at e, ne-eqb w 0 (λ z. omega (arith, wide widthOf code at w e .some)), ← f)
+    unfolding turnAt unless indicesTest
+    passed w e f =
+        rw (told-width widthOf code at e, ne-eqb w 0 (λ z. omega (arith, wide widthOf code at w e .some)), ← f)
 
-    pub bad-index : (w index pool : ℕ) → found w ≡ toldAt code at → bad (into pool index) ≡ checked at
+    pub bad-index : (w index pool : ℕ) → found w ≡ toldAt code at → badRef (into pool index) ≡ checked at
         → Refused (BadIndex at index pool) ≡ turnAt sizes records code at
-    unfolding turnAt indicesTest
-    bad-index w index pool e f = rw (value code at e, ne-eqb w 0 (λ z. omega (arith, wide widthOf code at w e .some)), ← f)
+    unfolding turnAt unless indicesTest
+    bad-index w index pool e f =
+        rw (told-width widthOf code at e, ne-eqb w 0 (λ z. omega (arith, wide widthOf code at w e .some)), ← f)
 
     pub code-ends : without 1 ≡ toldAt code at → Done ≡ turnAt sizes records code at
-    unfolding turnAt widthTest
-    code-ends e = rw (value code at e, le-leb (length code) at (told-past widthOf code at e))
+    unfolding turnAt unless widthTest
+    code-ends e = rw (told-width widthOf code at e, le-leb (length code) at (told-past widthOf code at e))
 
-    pub no-width : (why : ℕ) → 1 < why → without why ≡ toldAt code at → Refused (Undecodable at) ≡ turnAt sizes records code at
-    unfolding turnAt widthTest
-    no-width why l e = rw (value code at e, lt-leb (length code) at (told-byte widthOf code at why l e))
+    pub no-width : (why : ℕ) → 1 < why → without why ≡ toldAt code at
+        → Refused (Undecodable at) ≡ turnAt sizes records code at
+    unfolding turnAt unless widthTest
+    no-width why l e = rw (told-width widthOf code at e, lt-leb (length code) at (told-byte widthOf code at why l e))
 
   -- ---- what a turn says of the whole pass
 
   -- at an instruction its indices are tested and then the rest of the code; where there is none, the width
   pub code-on : (at : ℕ) → 0 < widthAt code at
-      → codeTest sizes records code at ≡ first (indicesTest sizes records code at ∷ codeTest sizes records code (at + widthAt code at) ∷ [])
+      → codeTest sizes records code at
+      ≡ first (indicesTest sizes records code at ∷ codeTest sizes records code (at + widthAt code at) ∷ [])
   unfolding codeTest
   code-on at h =
-      walk-on (λ i rest. first (indicesTest sizes records code i ∷ rest ∷ [])) (widthTest code) (all-within widthOf code) at h
+      walk-on (λ i rest. first (indicesTest sizes records code i ∷ rest ∷ [])) (widthTest code)
+      (all-within widthOf code) at h
 
   pub code-stop : (at : ℕ) → widthAt code at ≡ 0 → codeTest sizes records code at ≡ widthTest code at
   unfolding codeTest
   code-stop at e =
-      walk-stop (λ i rest. first (indicesTest sizes records code i ∷ rest ∷ [])) (widthTest code) (all-within widthOf code) at e
+      walk-stop (λ i rest. first (indicesTest sizes records code i ∷ rest ∷ [])) (widthTest code)
+      (all-within widthOf code) at e
 
   -- indices that are fine leave it to the rest, and a bad one does not
   told-next : (at : ℕ) → 0 < widthAt code at → indicesTest sizes records code at ≡ none
@@ -98,18 +103,22 @@ module _ (sizes : Sizes) (records : Tables) (code : List ℕ) where
     ends : widthAt code at ≡ 0 → widthTest code at ≡ none → Ways at Done
     lacks : {answer : Answer} → widthAt code at ≡ 0 → widthTest code at ≡ some answer → Ways at (Refused answer)
     passes : 0 < widthAt code at → indicesTest sizes records code at ≡ none → Ways at (Next (at + widthAt code at))
-    is-bad : {answer : Answer} → 0 < widthAt code at → indicesTest sizes records code at ≡ some answer → Ways at (Refused answer)
+    is-bad : {answer : Answer} → 0 < widthAt code at → indicesTest sizes records code at ≡ some answer
+        → Ways at (Refused answer)
 
   ways : (at : ℕ) → Ways at (turnAt sizes records code at)
-  unfolding turnAt
+  unfolding turnAt unless
   ways at = go (eqb (widthAt code at) 0) refl (widthTest code at) refl (indicesTest sizes records code at) refl
     where
       go : (b : Bool) → eqb (widthAt code at) 0 ≡ b → (s : Test) → widthTest code at ≡ s
-          → (t : Test) → indicesTest sizes records code at ≡ t → Ways at (cond b (unless s Done) (unless t (Next (at + widthAt code at))))
+          → (t : Test) → indicesTest sizes records code at ≡ t
+          → Ways at (cond b (unless Refused s Done) (unless Refused t (Next (at + widthAt code at))))
       go true p none q t r = ends (eqb-true _ 0 p) q
       go true p (some answer) q t r = lacks (eqb-true _ 0 p) q
-      go false p s q none r = let some : widthAt code at ≡ 0 → ⊥ = eqb-false (widthAt code at) 0 p in passes (omega arith) r
-      go false p s q (some answer) r = let some : widthAt code at ≡ 0 → ⊥ = eqb-false (widthAt code at) 0 p in is-bad (omega arith) r
+      go false p s q none r =
+          let some : widthAt code at ≡ 0 → ⊥ = eqb-false (widthAt code at) 0 p in passes (omega arith) r
+      go false p s q (some answer) r =
+          let some : widthAt code at ≡ 0 → ⊥ = eqb-false (widthAt code at) 0 p in is-bad (omega arith) r
 
   -- ---- the loop
 
@@ -121,7 +130,8 @@ module _ (sizes : Sizes) (records : Tables) (code : List ℕ) where
     pub to-mark : markedAll marks (startsBy widthOf code at) ≡ markedAll zeros (starts code)
     pub to-tell : codeTest sizes records code at ≡ codeTest sizes records code 0
 
-  pub going-first : (zeros before : List ℕ) → zeros ≡ replicate (length before) 0 → length code / 64 < length before → Going zeros zeros 0
+  pub going-first : (zeros before : List ℕ) → zeros ≡ replicate (length before) 0 → length code / 64 < length before
+      → Going zeros zeros 0
   going-first zeros before z h =
       record { within = omega arith; room = rw (z, length-replicate) h; long = refl; to-mark = refl; to-tell = refl }
 
@@ -146,7 +156,8 @@ module _ (sizes : Sizes) (records : Tables) (code : List ℕ) where
       pub inside : n ≤ length code
       pub goes : Going zeros after n
 
-    forward : 0 < widthAt code at → indicesTest sizes records code at ≡ none → after ≡ marked marks at → Forward (at + widthAt code at)
+    forward : 0 < widthAt code at → indicesTest sizes records code at ≡ none → after ≡ marked marks at
+        → Forward (at + widthAt code at)
     unfolding markedAll
     forward w t m =
         let there = width-there widthOf code at w in
@@ -202,7 +213,8 @@ module _ (sizes : Sizes) (records : Tables) (code : List ℕ) where
         go (passes w t) q = let no : _≡_ {A = ℕ} 0 1 = cc in absurd (omega arith)
         go (is-bad w t) q = sym (told-here at w t ∙ (cc)) ∙ going .to-tell
 
-    pub refused-here : {answer : Answer} {s : Outcome} {cleared : List ℕ} (before : List ℕ) → zeros ≡ replicate (length before) 0
+    pub refused-here : {answer : Answer} {s : Outcome} {cleared : List ℕ} (before : List ℕ)
+        → zeros ≡ replicate (length before) 0
         → r ≡ Refused answer → Prepared (some answer) (replicate (length after) 0) s cleared
         → Prepared (codeTest sizes records code 0) (marksOf code (told s) (length before)) s cleared
     unfolding marksOf
@@ -210,5 +222,7 @@ module _ (sizes : Sizes) (records : Tables) (code : List ℕ) where
         let same : length after ≡ length before = as-long ∙ going .long ∙ ap length z ∙ length-replicate _ _ in
         record {
           answer = p .answer ∙ told-refusal e;
-          marks = p .marks ∙ ap (λ (n : ℕ). replicate n 0) same ∙ sym (ap (λ (t : Test). marksOf code t (length before)) (p .answer));
+          marks =
+              p .marks ∙ ap (λ (n : ℕ). replicate n 0) same ∙
+              sym (ap (λ (t : Test). marksOf code t (length before)) (p .answer));
         }

@@ -7,7 +7,7 @@ use Prim.Native.Nat.{ℕ, _≤_, _<_}
 use native.Mathlib.Omega.{arith}
 use borrow.Author.Tests.{lt-ltb, le-ltb, ne-eqb}
 use Rattle.pools.specs.Sizes.{firstExceeded}
-use Rattle.pools.specs.Tables.{firstBad}
+use Rattle.pools.specs.Tables.{firstBadTable}
 use Rattle.pools.specs.Told.{fine, overLimit, badTable}
 use Rattle.pools.specs.declared.limits.Sizes.{Sizes}
 use Rattle.rules.specs.Bits.{Right, bit}
@@ -15,14 +15,15 @@ use Rattle.rules.specs.Rights.{lacking}
 use Rattle.answer.specs.declared.Answer.{Answer}
 use Rattle.answer.specs.declared.Answer.the-variants.{TooLarge, BadTable, NoRoom, MissingCaps}
 use Rattle.answer.specs.Answer.{told}
-use Rattle.before.specs.Before.{Test, first, limitsTest, tablesTest, roomTest, rightsTest, functionTest}
+use Rattle.before.specs.Before.{Test, first, limitsTest, tablesTest, lentTest, rightsTest, functionTest}
 use Rattle.answer.specs.declared.Outcome.{Outcome}
 use Rattle.answer.specs.declared.Outcome.the-variants.{Passed, Refused}
 
 -- ---- several in their order
 
 -- a test that passes leaves it to the others, and one that refuses does not
-pub goes-on : {r : Outcome} {test : Test} (tests : List Test) → told r ≡ test → r ≡ Passed → first tests ≡ first (test ∷ tests)
+pub goes-on : {r : Outcome} {test : Test} (tests : List Test) → told r ≡ test → r ≡ Passed
+    → first tests ≡ first (test ∷ tests)
 unfolding told first
 goes-on tests e p = rw (← e, p)
 
@@ -64,22 +65,23 @@ module _ (sizes : Sizes) where
   limit-exceeded limit e = rw (← e)
 
 module _ (chains steps switches cases ranges : List ℕ) where
-  pub tables-good : fine ≡ firstBad chains steps switches cases ranges → none ≡ tablesTest chains steps switches cases ranges
+  pub tables-good : fine ≡ firstBadTable chains steps switches cases ranges
+      → none ≡ tablesTest chains steps switches cases ranges
   unfolding tablesTest
   tables-good e = rw (← e)
 
-  pub table-bad : (table entry : ℕ) → badTable table entry ≡ firstBad chains steps switches cases ranges
+  pub table-bad : (table entry : ℕ) → badTable table entry ≡ firstBadTable chains steps switches cases ranges
       → some (BadTable table entry) ≡ tablesTest chains steps switches cases ranges
   unfolding tablesTest
   table-bad table entry e = rw (← e)
 
 module _ (needed lent buffer : ℕ) where
-  pub room-lacks : lent < needed → some (NoRoom needed buffer) ≡ roomTest needed lent buffer
-  unfolding roomTest
+  pub room-lacks : lent < needed → some (NoRoom needed buffer) ≡ lentTest needed lent buffer
+  unfolding lentTest
   room-lacks h = rw (lt-ltb lent needed h)
 
-  pub room-lent : needed ≤ lent → none ≡ roomTest needed lent buffer
-  unfolding roomTest
+  pub room-lent : needed ≤ lent → none ≡ lentTest needed lent buffer
+  unfolding lentTest
   room-lent h = rw (le-ltb lent needed h)
 
 module _ (needed rights : ℕ) where

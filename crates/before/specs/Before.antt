@@ -1,25 +1,26 @@
--- Everything before the chunks. Document 01, "Order of the tests": "Limits, over whole entries; ragged tables; table entries,
--- tables and entries upward; room for marks, heights; constants upward (kind 4, p the whole word needed); over the code, width
--- then indices of each instruction; FUNCTION if functions exist".
+-- Everything before the chunks. Document 01, "Order of the tests": "Limits, over whole entries; ragged tables; table
+-- entries, tables and entries upward; room for marks, heights; constants upward (kind 4, p the whole word needed); over
+-- the code, width then indices of each instruction; FUNCTION if functions exist"; "What comes back": "all of marks
+-- holds the starts' bits after acceptance, zeros after refusal".
 use mathlib.Core.Bool.{cond}
 use mathlib.Core.List.{List, [], _∷_}
 use mathlib.Core.Option.{Option, none, some}
 use Prim.Native.Nat.{ℕ, _+_, _/_}
 use lib.Dec.{ltb, leb, eqb}
-use lib.ListN.{length}
-use Rattle.code.specs.Width.{widthAt}
-use Rattle.indices.specs.Indices as reference
-use Rattle.indices.specs.declared.Sizes as counted
-use Rattle.listing.specs.Walk.{walk}
-use Rattle.pools.specs.Sizes.{firstExceeded}
-use Rattle.pools.specs.Tables.{firstBad}
-use Rattle.pools.specs.declared.limits.Sizes.{Sizes}
-use Rattle.answer.specs.Answer.{refusal, noChunk, numbered}
-use Rattle.answer.specs.declared.verdict.Verdict.{Verdict}
-use Rattle.rules.specs.Bits.{Right, bit}
-use Rattle.rules.specs.Rights.{lacking}
+use lib.ListN.{length, replicate}
 use Rattle.answer.specs.declared.Answer.{Answer}
 use Rattle.answer.specs.declared.Answer.the-variants.{TooLarge, BadTable, NoRoom, MissingCaps, Undecodable, BadIndex}
+use Rattle.code.specs.Width.{widthAt}
+use Rattle.indices.specs.Indices.{Tables, tablesOf, sizeOf, refs, firstBadRef}
+use Rattle.indices.specs.declared.Sizes as counted
+use Rattle.listing.specs.Starts.{inTurn, starts}
+use Rattle.marks.specs.Marks.{markedAll}
+use Rattle.pools.specs.Sizes.{firstExceeded}
+use Rattle.pools.specs.Tables.{firstBadTable}
+use Rattle.pools.specs.Told.{Told}
+use Rattle.pools.specs.declared.limits.Sizes.{Sizes}
+use Rattle.rules.specs.Bits.{Right, bit}
+use Rattle.rules.specs.Rights.{lacking}
 use Rattle.before.specs.Input.{Input, sizesOf, poolSizes}
 
 -- a test passes, or refuses with an answer
@@ -31,22 +32,22 @@ unfoldable pub first : List Test → Test
 first [] = none
 first (test ∷ tests) = elim test [ none ↦ first tests | some answer ↦ some answer ]
 
--- ---- the tests
+-- what is told in numbers, as a test: kind 0 passes
+abbrev pub refusedBy : Told → (Told → Answer) → Test
+refusedBy told answer = cond (eqb (told .kind) 0) none (some (answer told))
 
 -- kind 1: more of something than its limit allows
 unfoldable pub limitsTest : Sizes → Test
-limitsTest sizes = cond (eqb (firstExceeded sizes .kind) 0) none (some (TooLarge (firstExceeded sizes .p)))
+limitsTest sizes = refusedBy (firstExceeded sizes) (λ t. TooLarge (t .p))
 
 -- kind 2: a ragged table, or a bad entry
-module _ (chains steps switches cases ranges : List ℕ) where
-  unfoldable pub tablesTest : Test
-  tablesTest =
-      cond (eqb (firstBad chains steps switches cases ranges .kind) 0) none
-      (some (BadTable (firstBad chains steps switches cases ranges .p) (firstBad chains steps switches cases ranges .q)))
+unfoldable pub tablesTest : (chains steps switches cases ranges : List ℕ) → Test
+tablesTest chains steps switches cases ranges =
+    refusedBy (firstBadTable chains steps switches cases ranges) (λ t. BadTable (t .p) (t .q))
 
 -- kind 3: fewer elements are lent of the buffer of this number than are needed
-unfoldable pub roomTest : (needed lent buffer : ℕ) → Test
-roomTest needed lent buffer = cond (ltb lent needed) (some (NoRoom needed buffer)) none
+unfoldable pub lentTest : (needed lent buffer : ℕ) → Test
+lentTest needed lent buffer = cond (ltb lent needed) (some (NoRoom needed buffer)) none
 
 -- kind 4: a right lacks of those that are needed, which are told whole
 unfoldable pub rightsTest : (needed rights : ℕ) → Test
@@ -65,48 +66,42 @@ functionTest functions rights = cond (eqb functions 0) none (rightsTest (bit Rig
 unfoldable pub widthTest : List ℕ → ℕ → Test
 widthTest code at = cond (leb (length code) at) none (some (Undecodable at))
 
-module _ (sizes : counted.Sizes) (records : reference.Tables) (code : List ℕ) where
+module _ (sizes : counted.Sizes) (records : Tables) (code : List ℕ) where
   -- kind 6: an index of the instruction at an offset is bad
   unfoldable pub indicesTest : ℕ → Test
-  indicesTest at =
-      cond (eqb (reference.firstBad (reference.sizeOf sizes) (reference.refs records code at) .kind) 0) none
-      (some (BadIndex at (reference.firstBad (reference.sizeOf sizes) (reference.refs records code at) .p)
-      (reference.firstBad (reference.sizeOf sizes) (reference.refs records code at) .q)))
+  indicesTest at = refusedBy (firstBadRef (sizeOf sizes) (refs records code at)) (λ t. BadIndex at (t .p) (t .q))
 
   -- both over the code from an offset on: the indices of each instruction in turn, and the width where there is none
   unfoldable pub codeTest : ℕ → Test
-  codeTest at = walk (widthAt code) (λ i rest. first (indicesTest i ∷ rest ∷ [])) (widthTest code) (length code) at
+  codeTest at =
+      inTurn (widthAt code) (λ i rest. first (indicesTest i ∷ rest ∷ [])) (widthTest code) (length code) at
 
--- ---- their order
-
--- before any store, where so many words of marks and elements of heights are lent
+-- the tests before any store in their order, where so many words of marks and elements of heights are lent
 module _ (sizes : Sizes) (chains steps switches cases ranges : List ℕ) (marks heights : ℕ) where
   unfoldable pub earlyTests : Test
   earlyTests =
       first (limitsTest sizes ∷ tablesTest chains steps switches cases ranges ∷
-      roomTest (sizes .code / 64 + 1) marks 1 ∷ roomTest (sizes .chunks) heights 2 ∷ [])
+      lentTest (sizes .code / 64 + 1) marks 1 ∷ lentTest (sizes .chunks) heights 2 ∷ [])
 
--- after the first store
-module _ (rights functions : ℕ) (constants : List ℕ) (sizes : counted.Sizes) (records : reference.Tables) (code : List ℕ) where
+-- those after the first store
+module _ (rights functions : ℕ) (constants : List ℕ) (sizes : counted.Sizes) (records : Tables) (code : List ℕ) where
   unfoldable pub lateTests : Test
-  lateTests = first (constantsTest rights constants ∷ codeTest sizes records code 0 ∷ functionTest functions rights ∷ [])
+  lateTests =
+      first (constantsTest rights constants ∷ codeTest sizes records code 0 ∷ functionTest functions rights ∷ [])
 
--- all of them, of an input
-module _ (I : Input) where
-  abbrev pub beforeStores : (marks heights : ℕ) → Test
-  beforeStores marks heights =
-      earlyTests (sizesOf I) (I .script .pools .chains) (I .script .pools .steps) (I .script .pools .switches) (I .script .pools .cases)
-      (I .script .pools .ranges) marks heights
+-- both of an input
+abbrev pub beforeStores : Input → (marks heights : ℕ) → Test
+beforeStores I marks heights =
+    let pools = I .script .pools in
+    earlyTests (sizesOf I) (pools .chains) (pools .steps) (pools .switches) (pools .cases) (pools .ranges) marks heights
 
-  abbrev pub afterStores : Test
-  afterStores =
-      lateTests (I .script .rights) (I .functions) (I .script .pools .constants) (poolSizes (sizesOf I))
-      (reference.tablesOf (I .script .pools)) (I .script .code)
+abbrev pub afterStores : Input → Test
+afterStores I =
+    let pools = I .script .pools in
+    lateTests (I .script .rights) (I .functions) (pools .constants) (poolSizes (sizesOf I)) (tablesOf pools)
+    (I .script .code)
 
-  unfoldable pub beforeChunks : (marks heights : ℕ) → Test
-  beforeChunks marks heights = first (beforeStores marks heights ∷ afterStores ∷ [])
-
--- an outcome in document 01's numbers: kind 0 with nothing counted yet, or the answer's
-unfoldable pub verdictOf : Test → Verdict
-verdictOf none = refusal 0 noChunk 0 0 0
-verdictOf (some answer) = numbered noChunk answer
+-- what so many words of marks hold once stores have begun and a test told this
+unfoldable pub marksOf : List ℕ → Test → (words : ℕ) → List ℕ
+marksOf code none words = markedAll (replicate words 0) (starts code)
+marksOf code (some answer) words = replicate words 0

@@ -2,30 +2,25 @@
 -- instruction".
 use mathlib.Core.Bool.{cond}
 use mathlib.Core.List.{List}
-use mathlib.Core.Option.{none, some}
 use mathlib.Core.Path.{_≡_}
 use Prim.Native.Nat.{ℕ, _+_}
 use lib.Dec.{eqb}
+use Rattle.answer.specs.Answer.{unless}
 use Rattle.code.specs.Width.{widthAt}
 use Rattle.indices.specs.Indices.{Tables}
 use Rattle.indices.specs.declared.Sizes.{Sizes}
 use Rattle.marks.specs.Marks.{marked}
-use Rattle.before.specs.Before.{Test, indicesTest, widthTest}
+use Rattle.before.specs.Before.{indicesTest, widthTest}
 use Rattle.before.specs.declared.Turn.{Turn}
 use Rattle.before.specs.declared.Turn.the-variants.{Next, Done, Refused}
 
--- a test decides: a refusal, or what else the turn comes to
-abbrev pub unless : Test → Turn → Turn
-unless none turn = turn
-unless (some answer) turn = Refused answer
-
 module _ (sizes : Sizes) (records : Tables) (code : List ℕ) where
-  -- what the instruction at an offset comes to: the offset after it where its indices are fine; where there is none, the
-  -- code's end or the width that lacks
+  -- what the instruction at an offset comes to: the offset after it where its indices are fine; where there is none,
+  -- the code's end or the width that lacks
   unfoldable pub turnAt : ℕ → Turn
   turnAt at =
-      cond (eqb (widthAt code at) 0) (unless (widthTest code at) Done)
-      (unless (indicesTest sizes records code at) (Next (at + widthAt code at)))
+      cond (eqb (widthAt code at) 0) (unless Refused (widthTest code at) Done)
+      (unless Refused (indicesTest sizes records code at) (Next (at + widthAt code at)))
 
 -- an instruction that is passed is marked, and nothing else is
 unfoldable pub marksTurned : List ℕ → ℕ → Turn → List ℕ

@@ -1,17 +1,21 @@
-// Everything before the chunks, in document 01's order: limits, tables, room for marks and heights, constants, the first
-// pass over the code with its marks, and the right to have functions.
-// Every answer, and all that marks hold on return, is fixed by what is passed in; any of it gets an answer.
-// What passes is what a chunk's walk builds on. The chunks themselves are left to `verify`.
+// Everything before the chunks, in document 01's order: limits, tables, room for marks and heights, constants, the
+// first pass over the code with its marks, and the right to have functions. Every answer, and all that marks hold on
+// return, is fixed by what is passed in; any of it gets an answer. What passes is what a chunk's walk builds on. The
+// chunks themselves are left to `verify`.
 ghost use mathlib.Core.Option.{some};
 ghost use mathlib.Core.Path.{_≡_};
 ghost use Prim.Native.Nat.{_<_, _/_};
 ghost use lib.ListN.{length, replicate};
-ghost use Rattle.indices.specs.Indices.{Sound, tables};
+ghost use Rattle.indices.specs.Checks.{tables, Sound};
 ghost use Rattle.answer.specs.Answer.{told};
-ghost use Rattle.before.specs.Before.{limitsTest, tablesTest, roomTest, rightsTest, constantsTest, functionTest, codeTest, earlyTests, lateTests};
-ghost use Rattle.before.specs.Input.{input, poolSizes};
-ghost use Rattle.before.specs.Memory.{Prepared, ForChunks, marksOf};
+ghost use Rattle.before.specs.Before.{limitsTest, tablesTest, lentTest, rightsTest, constantsTest, functionTest};
+ghost use Rattle.before.specs.Before.{codeTest, earlyTests, lateTests, marksOf};
+ghost use Rattle.before.specs.Input.{poolSizes};
+ghost use Rattle.before.specs.Parameters.{input};
+ghost use Rattle.before.specs.Calls.{Prepared, ForChunks};
 ghost use Rattle.before.specs.Pass.{Turned, turnAt};
+use answer::Answer;
+use answer::Outcome;
 use code::Width;
 use indices::Checked;
 use pools::CASE_WORDS;
@@ -21,12 +25,10 @@ use pools::SWITCH_WORDS;
 use pools::limits::Limits;
 use pools::limits::Sizes;
 use pools::tables::Tables;
-use answer::Answer;
-use answer::Outcome;
 use rules::caps;
 
-// What one instruction of the first pass comes to: it is passed, and this is the offset after it; the code has ended; or a
-// refusal.
+// What one instruction of the first pass comes to: it is passed, and this is the offset after it; the code has ended;
+// or a refusal.
 pub enum Turn {
     Next(usize),
     Done,
@@ -57,7 +59,8 @@ pub fn check_tables(
     cases: &[u32],
     ranges: &[u32],
 ) -> Outcome
-    ensures { λ r. ⌜ told r ≡ tablesTest (now (chains .entry)) (now (steps .entry)) (now (switches .entry)) (now (cases .entry)) (now (ranges .entry)) ⌝ }
+    ensures { λ r. ⌜ told r ≡ tablesTest (now (chains .entry)) (now (steps .entry)) (now (switches .entry))
+        (now (cases .entry)) (now (ranges .entry)) ⌝ }
 {
     let tables = pools::tables::check_tables(chains, steps, switches, cases, ranges);
     match tables {
@@ -68,7 +71,7 @@ pub fn check_tables(
 
 // Kind 3: are so many elements lent of the buffer of this number?
 pub fn check_room(needed: usize, lent: usize, buffer: u64) -> Outcome
-    ensures { λ r. ⌜ told r ≡ roomTest needed lent buffer ⌝ }
+    ensures { λ r. ⌜ told r ≡ lentTest needed lent buffer ⌝ }
 {
     if lent < needed {
         Outcome::Refused(Answer::NoRoom {
@@ -135,7 +138,8 @@ pub fn pass_instruction(
     requires { ⌜ Sound sizes (tables (now chains) (now steps) (now switches) (now cases)) ⌝ }
     requires { ⌜ length (now code) / 64 < length (now marks) ⌝ }
     ensures { λ r. ⌜ Turned
-        (turnAt sizes (tables (now (chains .entry)) (now (steps .entry)) (now (switches .entry)) (now (cases .entry))) (now (code .entry)) at)
+        (turnAt sizes (tables (now (chains .entry)) (now (steps .entry)) (now (switches .entry)) (now (cases .entry)))
+        (now (code .entry)) at)
         at (now (marks .entry)) r (now (marks .exit)) ⌝ }
 {
     let width = code::width_at(code, at);
@@ -166,8 +170,8 @@ fn refuse(answer: Answer, marks: &mut [u64]) -> Outcome
     Outcome::Refused(answer)
 }
 
-// Kinds 5 and 6, over the whole code, reachable or not: every instruction in turn, each marked. Words past those that the
-// code needs are cleared too, and a refusal clears all of them again.
+// Kinds 5 and 6, over the whole code, reachable or not: every instruction in turn, each marked. Words past those that
+// the code needs are cleared too, and a refusal clears all of them again.
 pub fn first_pass(
     code: &[u8],
     sizes: indices::Sizes,
@@ -180,7 +184,8 @@ pub fn first_pass(
     requires { ⌜ Sound sizes (tables (now chains) (now steps) (now switches) (now cases)) ⌝ }
     requires { ⌜ length (now code) / 64 < length (now marks) ⌝ }
     ensures { λ r. ⌜ Prepared
-        (codeTest sizes (tables (now (chains .entry)) (now (steps .entry)) (now (switches .entry)) (now (cases .entry))) (now (code .entry)) 0)
+        (codeTest sizes (tables (now (chains .entry)) (now (steps .entry)) (now (switches .entry)) (now (cases .entry)))
+        (now (code .entry)) 0)
         (marksOf (now (code .entry)) (told r) (length (now (marks .entry))))
         r (now (marks .exit)) ⌝ }
 {
@@ -214,8 +219,8 @@ fn early_tests(
     marks: usize,
     heights: usize,
 ) -> Outcome
-    ensures { λ r. ⌜ told r ≡ earlyTests sizes (now (chains .entry)) (now (steps .entry)) (now (switches .entry)) (now (cases .entry))
-        (now (ranges .entry)) marks heights ⌝ }
+    ensures { λ r. ⌜ told r ≡ earlyTests sizes (now (chains .entry)) (now (steps .entry)) (now (switches .entry))
+        (now (cases .entry)) (now (ranges .entry)) marks heights ⌝ }
 {
     let kept = check_limits(sizes);
     if let Outcome::Refused(_) = kept {
@@ -232,8 +237,8 @@ fn early_tests(
     check_room(sizes.chunks, heights, HEIGHTS)
 }
 
-// The tests after the first store: constants, the first pass, FUNCTION. A refusal by any of them leaves no mark. For a caller
-// who knows that the tables are good and the marks enough.
+// The tests after the first store: constants, the first pass, FUNCTION. A refusal by any of them leaves no mark. For a
+// caller who knows that the tables are good and the marks enough.
 fn late_tests(
     rights: u32,
     functions: u32,
@@ -250,7 +255,8 @@ fn late_tests(
     requires { ⌜ length (now code) / 64 < length (now marks) ⌝ }
     ensures { λ r. ⌜ Prepared
         (lateTests rights functions (now (constants .entry)) (poolSizes sizes)
-        (tables (now (chains .entry)) (now (steps .entry)) (now (switches .entry)) (now (cases .entry))) (now (code .entry)))
+        (tables (now (chains .entry)) (now (steps .entry)) (now (switches .entry)) (now (cases .entry)))
+        (now (code .entry)))
         (marksOf (now (code .entry)) (told r) (length (now (marks .entry))))
         r (now (marks .exit)) ⌝ }
 {

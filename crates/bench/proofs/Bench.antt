@@ -3,16 +3,13 @@
 use mathlib.Core.List.{List, _∷_, map}
 use mathlib.Core.Path.{_≡_, refl}
 use lib.Count.{ones}
-use Rattle.before.specs.Before.{first, limitsTest, tablesTest, roomTest, rightsTest, constantsTest, functionTest}
-use Rattle.before.specs.Before.{widthTest, indicesTest, codeTest, earlyTests, lateTests}
-use Rattle.before.specs.Memory.{marksOf}
+use Rattle.before.specs.Before.{first, limitsTest, tablesTest, lentTest, rightsTest, constantsTest, functionTest}
+use Rattle.before.specs.Before.{widthTest, indicesTest, codeTest, earlyTests, lateTests, marksOf}
 use Rattle.bench.specs.Bench.{word, BenchRow, answered, expected, bench}
-use Rattle.code.specs.Layout.{among, layout, countFrom, indicesFrom}
-use Rattle.code.specs.Numbers.{little}
-use Rattle.code.specs.Width.{widthOf, toldBy}
+use Rattle.code.specs.Layout.{among, layout, countFrom, indicesFrom, little}
+use Rattle.code.specs.Width.{widthOf, widthBy}
 use Rattle.indices.specs.Indices as reference
-use Rattle.listing.specs.Listing.{startsBy, startsBefore}
-use Rattle.listing.specs.Walk.{walkFor}
+use Rattle.listing.specs.Starts.{startsBy, startsBefore, inTurn}
 use Rattle.marks.specs.Marks.{marked, markedAll, total}
 use Rattle.pools.specs.Pools.{entries}
 use Rattle.pools.specs.Sizes.{maxCode, limits, tells, firstOver}
@@ -34,7 +31,7 @@ use Rattle.verify.specs.Call.{verdictOn, marksOn, afterChunks, afterLateTests, 
 use Rattle.judging.specs.Judging.{judgeAll}
 
 computed : map answered bench ≡ map expected bench
-unfolding first limitsTest tablesTest roomTest rightsTest constantsTest functionTest widthTest indicesTest codeTest earlyTests lateTests marksOf word answered among layout countFrom indicesFrom little widthOf toldBy reference.firstBadJump reference.sizeOf reference.inCode reference.inRecord startsBy startsBefore walkFor marked markedAll total entries maxCode limits tells firstOver tables.ragged tables.wholeTable tables.firstBadJump told.first told.firstFrom numbered unless spanTest chunk.roomTest openTest heightTest measured walked judgeChunk agree falls plain armsOf targetsOf afterOf jumpedOf next degree T E effect operandsOf needs pops pushes sumOf fallTo iteratorsNeeded handlersNeeded required lacking ofName ofChain allTargets needsTest rule judge push firstBadJump seen turn run lookup verdictOn marksOn afterChunks afterLateTests afterEarlyTests judgeAll ones
+unfolding first limitsTest tablesTest lentTest rightsTest constantsTest functionTest widthTest indicesTest codeTest earlyTests lateTests marksOf word answered among layout countFrom indicesFrom little widthOf widthBy reference.firstBadRef reference.sizeOf reference.inCode reference.inRecord startsBy startsBefore inTurn marked markedAll total entries maxCode limits tells firstOver tables.ragged tables.wholeTable tables.firstBadTable told.firstTold told.firstFrom numbered unless spanTest chunk.roomTest openTest heightTest measured walked judgeChunk agree falls plain armsOf targetsOf afterOf jumpedOf next degree T E effect operandsOf needs pops pushes sumOf fallTo iteratorsNeeded handlersNeeded required lacking ofName ofChain allTargets needsTest rule judge push firstBadJump seen turn run lookup verdictOn marksOn afterChunks afterLateTests afterEarlyTests judgeAll ones
 computed = refl
 
 -- lists that are equal under two functions have the same of both at each element

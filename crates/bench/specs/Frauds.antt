@@ -10,7 +10,7 @@ use lib.ListN.{length, getD}
 use Rattle.answer.specs.declared.verdict.Verdict.{Verdict}
 use Rattle.before.specs.Input.{Input}
 use Rattle.demand.specs.Span.{Span}
-use Rattle.listing.specs.Listing.{starts}
+use Rattle.listing.specs.Starts.{starts}
 use Rattle.rules.specs.Script.{Script}
 use Rattle.verify.specs.Accounts.{sumBelow, Measured}
 use Rattle.verify.specs.Call.{Memory, Result, Calls}

@@ -6,7 +6,7 @@ use mathlib.Core.Path.{_≡_, refl, sym, ap, _∙_}
 use Prim.Native.Nat.{ℕ}
 use borrow.Author.Tests.{eqb-true}
 use lib.Dec.{T, eqb, ltb}
-use Rattle.code.specs.ByTag.{Row, among, lookUp}
+use Rattle.code.specs.Tags.{Row, among, lookUp}
 use Rattle.code.specs.Width.{widthOf}
 use Rattle.code.proofs.Among.{false-is, or-true}
 use Rattle.code.proofs.Table.{left, right}

@@ -6,7 +6,7 @@ use mathlib.Core.Path.{_≡_}
 use Prim.Native.Nat.{ℕ, _<_}
 use lib.Dec.{eqb, eqb→eq}
 use lib.ListN.{getD}
-use Rattle.code.specs.Rows.{rows}
+use Rattle.code.specs.Rows.{widthRows}
 use Rattle.code.specs.Width.{widthOf}
 use Rattle.code.proofs.Packed.{entry, packed-at}
 use Rattle.code.proofs.Table.{each}
@@ -32,5 +32,5 @@ unfolding isWidth
 rule tag h = eqb→eq (getD entries tag 0) (widthOf tag) (each isWidth entries tt tag h)
 
 -- the digits of the code's rows are these entries
-pub row-entry : (tag : ℕ) → tag < 256 → entry 16 4 rows tag ≡ getD entries tag 0
-row-entry tag h = packed-at 16 4 rows entries tt tag h
+pub row-entry : (tag : ℕ) → tag < 256 → entry 16 4 widthRows tag ≡ getD entries tag 0
+row-entry tag h = packed-at 16 4 widthRows entries tt tag h

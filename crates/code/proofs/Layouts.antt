@@ -9,9 +9,9 @@ use native.Mathlib.Omega.{arith}
 use borrow.Author.Tests.{ne-eqb, lt-leb, leb-true, leb-false}
 use lib.Dec.{eqb, leb, eqb→eq}
 use lib.ListN.{replicate}
-use Rattle.code.specs.ByTag.{Row, among, lookUp}
-use Rattle.code.specs.Layout.{Field, size, layouts, layout}
-use Rattle.code.specs.Tags.{widths}
+use Rattle.code.specs.Tags.{Row, among, lookUp}
+use Rattle.code.specs.Layout.{Field, target, count8, count16, slot, index, layouts, layout}
+use Rattle.code.specs.TagLists.{widths}
 use Rattle.code.specs.Width.{widthOf}
 use Rattle.code.proofs.ByTag.{tagsOf, once, row-holds}
 use Rattle.code.proofs.Table.{each}
@@ -40,7 +40,14 @@ pub layout-row : {row : Row (List Field)} → List·Memᴰ row layouts → (tag 
 unfolding layout once tagsOf
 layout-row = row-holds layouts [] tt
 
--- how many bytes fields take
+-- how many bytes a field takes, and fields together
+abbrev size : Field → ℕ
+size target = 4
+size count8 = 1
+size count16 = 2
+size slot = 2
+size (index pool) = 2
+
 unfoldable pub sizes : List Field → ℕ
 sizes [] = 0
 sizes (field ∷ fields) = size field + sizes fields

@@ -5,11 +5,12 @@ use Prim.Native.Nat.{ℕ, _+_, _*_, _≤_, _<_}
 use native.Mathlib.Omega.{arith}
 use borrow.Author.Tests.{le-leb, lt-leb}
 use lib.ListN.{length, getD}
-use Rattle.code.specs.Numbers.{little, numberAt}
-use Rattle.code.specs.Told.{found, without}
+use Rattle.code.specs.Answers.{numberAt, found, without}
+use Rattle.code.specs.Layout.{little}
 
 -- where the bytes are there, the number is told
-pub number-there : (n : ℕ) (code : List ℕ) (at : ℕ) → at + n ≤ length code → found (little n code at) ≡ numberAt n code at
+pub number-there : (n : ℕ) (code : List ℕ) (at : ℕ) → at + n ≤ length code
+    → found (little n code at) ≡ numberAt n code at
 unfolding numberAt
 number-there n code at h = rw (le-leb (at + n) (length code) h)
 

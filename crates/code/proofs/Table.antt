@@ -20,13 +20,15 @@ pub right : (a b : Bool) → T (a && b) → T b
 right true b t = t
 right false b t = absurd t
 
-from : (test : ℕ → ℕ → Bool) (xs : List ℕ) (i : ℕ) → T (every test i xs) → (k : ℕ) → k < length xs → T (test (i + k) (getD xs k 0))
+from : (test : ℕ → ℕ → Bool) (xs : List ℕ) (i : ℕ) → T (every test i xs) → (k : ℕ) → k < length xs
+    → T (test (i + k) (getD xs k 0))
 from test [] i t k h = absurd (not-suc-le-zero h)
 from test (x ∷ xs) i t zero h = rw add-zero (left (test i x) (every test (suc i) xs) t)
 from test (x ∷ xs) i t (suc k) h =
     rw (add-suc, ← suc-add) (from test xs (suc i) (right (test i x) (every test (suc i) xs) t) k (le-of-suc-le-suc h))
 
-pub each : (test : ℕ → ℕ → Bool) (xs : List ℕ) → T (every test 0 xs) → (k : ℕ) → k < length xs → T (test k (getD xs k 0))
+pub each : (test : ℕ → ℕ → Bool) (xs : List ℕ) → T (every test 0 xs) → (k : ℕ) → k < length xs
+    → T (test k (getD xs k 0))
 each test xs t k h = rw zero-add at (from test xs 0 t k h)
 
 -- past the end of a list there is nothing

@@ -1,35 +1,26 @@
 -- Where an instruction's operands stand: the fields of each tag in byte order, the first at offset 1. Document 01,
 -- "Tags": "Index checks are those of `check_indices` in 000, in its order and at its offsets. Jump targets are u32 at
 -- offset 1. A count n is the byte at 1 (width 2 and CALL_FN_PTR_ON_*), the byte at 3 (other calls), the u16 at 1
--- (MAKE_*)". A pool's number is that of kind 6: "constant 1, name, operator, op-assignment, chain, switch, site 7".
+-- (MAKE_*)"; "Modules": "little-endian numbers". A pool's number is that of kind 6: "constant 1, name, operator,
+-- op-assignment, chain, switch, site 7".
 use mathlib.Core.List.{List, [], _∷_, _++_}
-use Prim.Native.Nat.{ℕ, _+_}
+use Prim.Native.Nat.{ℕ, zero, suc, _+_, _*_}
 use lib.ListN.{getD}
-use Rattle.code.specs.ByTag.{Row, _for_, lookUp}
-use Rattle.code.specs.Numbers.{little}
-use Rattle.code.specs.Tags.{ROTATE, CURRY, CALL-FN-PTR, CALL-FN-PTR-CAPTURE, CALL-FN-PTR-METHOD}
-use Rattle.code.specs.Tags.{CALL-FN-PTR-ON-THIS, UNWIND-TO, STATEMENT, SHARE, SHARE-NAMED, LOAD-SHARED}
-use Rattle.code.specs.Tags.{LOAD-SHARED-NAMED, ASSIGN-THIS-OP, MAKE-CLOSURE, LOAD-CONST, LOAD-LOCAL, LOAD-NAMED}
-use Rattle.code.specs.Tags.{CHAIN, MAKE-ARRAY, MAKE-MAP, SWITCH, CUSTOM-SYNTAX, ASSIGN-NAMED, IMPORT}
-use Rattle.code.specs.Tags.{CALL, CALL-THIS-REF, CALL-FN-PTR-ON-LOCAL, CALL-FN-PTR-ON-NAMED}
-use Rattle.code.specs.Tags.{JUMP, SKIP-IF-NOT-UNIT, ITER-NEXT, PUSH-HANDLER, EXPORT-LOCAL, EXPORT-NAMED}
-use Rattle.code.specs.Tags.{ASSIGN-LOCAL, ASSIGN-NAMED-OP, CALL-OP, CALL-LOCAL-REF, CALL-NAMED-REF}
-use Rattle.code.specs.Tags.{ITER-NEXT-INDEXED, PUSH-HANDLER-VAR, ASSIGN-LOCAL-OP}
-use Rattle.code.specs.Tags.{jumpIfs, stores, declares, checks}
-unfoldable pub use Rattle.code.specs.ByTag.{among}
+use Rattle.code.specs.Tags.{Row, _for_, lookUp, ROTATE, CURRY, CALL-FN-PTR, CALL-FN-PTR-CAPTURE}
+use Rattle.code.specs.Tags.{CALL-FN-PTR-METHOD, CALL-FN-PTR-ON-THIS, UNWIND-TO, STATEMENT, SHARE, SHARE-NAMED}
+use Rattle.code.specs.Tags.{LOAD-SHARED, LOAD-SHARED-NAMED, ASSIGN-THIS-OP, MAKE-CLOSURE, LOAD-CONST, LOAD-LOCAL}
+use Rattle.code.specs.Tags.{LOAD-NAMED, CHAIN, MAKE-ARRAY, MAKE-MAP, SWITCH, CUSTOM-SYNTAX, ASSIGN-NAMED, IMPORT}
+use Rattle.code.specs.Tags.{CALL, CALL-THIS-REF, CALL-FN-PTR-ON-LOCAL, CALL-FN-PTR-ON-NAMED, JUMP}
+use Rattle.code.specs.Tags.{SKIP-IF-NOT-UNIT, ITER-NEXT, PUSH-HANDLER, EXPORT-LOCAL, EXPORT-NAMED, ASSIGN-LOCAL}
+use Rattle.code.specs.Tags.{ASSIGN-NAMED-OP, CALL-OP, CALL-LOCAL-REF, CALL-NAMED-REF, ITER-NEXT-INDEXED}
+use Rattle.code.specs.Tags.{PUSH-HANDLER-VAR, ASSIGN-LOCAL-OP, jumpIfs, stores, declares, checks}
+unfoldable pub use Rattle.code.specs.Tags.{among}
 
 -- a jump's target, of four bytes; a count of one byte, or of two; an index into a pool, or a number that nobody checks
 -- here, as a slot or a line, of two
 pub data Field : Type 0 where
   target count8 count16 slot : Field
   index : (pool : ℕ) → Field
-
-abbrev pub size : Field → ℕ
-size target = 4
-size count8 = 1
-size count16 = 2
-size slot = 2
-size (index pool) = 2
 
 abbrev pub constants : ℕ
 constants = 1
@@ -89,6 +80,11 @@ layouts =
 unfoldable pub layout : ℕ → List Field
 unfolding lookUp among
 layout tag = lookUp layouts [] tag
+
+-- the number that so many bytes make from an offset on, the lowest byte first
+unfoldable pub little : ℕ → List ℕ → ℕ → ℕ
+little zero code at = 0
+little (suc n) code at = getD code at 0 + 256 * little n code (at + 1)
 
 -- the number of the first count among fields that start at an offset of the code, 0 where there is none
 unfoldable pub countFrom : List Field → List ℕ → ℕ → ℕ

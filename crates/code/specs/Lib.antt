@@ -1,7 +1,6 @@
-pub mod Told
 pub mod Width
-pub mod Numbers
-pub mod ByTag
 pub mod Tags
 pub mod Layout
+pub mod Answers
+pub mod TagLists
 pub mod Rows

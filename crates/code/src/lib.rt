@@ -4,16 +4,17 @@
 ghost use mathlib.Core.Path.{_≡_};
 ghost use Prim.Native.Nat.{_+_, _≤_};
 ghost use lib.ListN.{length, getD};
-ghost use Rattle.code.specs.Numbers.{little, numberAt, numbered16, numbered32};
-ghost use Rattle.code.specs.Rows.{rows};
-ghost use Rattle.code.specs.Width.{numbered, toldAt, widthOf};
+ghost use Rattle.code.specs.Answers.{numberAt, numbered16, numbered32, widthTold, toldAt};
+ghost use Rattle.code.specs.Layout.{little};
+ghost use Rattle.code.specs.Rows.{widthRows};
+ghost use Rattle.code.specs.Width.{widthOf};
 
 pub mod tag;
 
 // The widths of sixteen tags, a hexadecimal digit each, the lowest tag in the lowest digit; 0 marks a byte that is no
 // tag. The numbers stand in a `match`, since an array would be stored anew at every use.
 fn width_row(row: u8) -> u64
-    ensures { λ r. ⌜ r ≡ getD rows row 0 ⌝ }
+    ensures { λ r. ⌜ r ≡ getD widthRows row 0 ⌝ }
 {
     match row {
         0 => 0x1111111111111110,
@@ -54,7 +55,7 @@ pub fn width_of(tag: u8) -> usize
 
 // What stands at an offset. Where the code ends before the operands do, no instruction stands there.
 pub fn width_at(code: &[u8], at: usize) -> Width
-    ensures { λ r. ⌜ numbered r ≡ toldAt (now (code .entry)) at ⌝ }
+    ensures { λ r. ⌜ widthTold r ≡ toldAt (now (code .entry)) at ⌝ }
 {
     if code.len() <= at {
         return Width::NoByte;

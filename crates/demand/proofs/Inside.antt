@@ -12,7 +12,7 @@ use lib.ListN.{length}
 use Rattle.code.specs.Layout.{among}
 use Rattle.code.specs.Width.{widthOf}
 use Rattle.code.proofs.Among.{among-member, member-among}
-use Rattle.listing.specs.Listing.{starts}
+use Rattle.listing.specs.Starts.{starts}
 use Rattle.listing.proofs.Starts.{listed-start, start-listed, start-wide, start-apart, start-next}
 use Rattle.listing.proofs.Before.{start-before}
 use Rattle.answer.specs.declared.Answer.{Answer}

@@ -9,7 +9,7 @@ use native.Mathlib.Omega.{arith}
 use lib.Dec.{eqb}
 use lib.ListN.{length, length-map}
 use Rattle.code.specs.Layout.{among}
-use Rattle.code.specs.Tags.{ITER-INIT, ITER-DROP, POP-HANDLER, iterNexts, pushHandlers}
+use Rattle.code.specs.Tags.{byte, bytes, ITER-INIT, ITER-DROP, POP-HANDLER, iterNexts, pushHandlers}
 use Rattle.code.specs.Width.{widthOf, widthAt}
 use Rattle.code.proofs.Among.{member-among}
 use Rattle.listing.proofs.Starts.{start-wide}
@@ -49,8 +49,8 @@ near-after : (tag pops pushes : ℕ) (d : Depths) → pushes ≤ 1 → Near d (a
 unfolding afterOf
 near-after tag pops pushes d one = record {
   operands = omega arith;
-  iterators = up-or-down (eqb tag ITER-INIT) (eqb tag ITER-DROP) (d .iterators);
-  handlers = up-or-down (among tag pushHandlers) (eqb tag POP-HANDLER) (d .handlers);
+  iterators = up-or-down (eqb tag (byte ITER-INIT)) (eqb tag (byte ITER-DROP)) (d .iterators);
+  handlers = up-or-down (among tag (bytes pushHandlers)) (eqb tag (byte POP-HANDLER)) (d .handlers);
 }
   where
     up-or-down : (up down : Bool) (n : ℕ) → cond up (n + 1) (cond down (n - 1) n) ≤ n + 1
@@ -61,8 +61,8 @@ near-after tag pops pushes d one = record {
 near-jumped : (tag : ℕ) (d a : Depths) → Near d a → Near d (jumpedOf tag d a)
 unfolding jumpedOf
 near-jumped tag d a h =
-    either (Near d) (among tag iterNexts) (record { operands = omega arith; iterators = omega arith; handlers = omega arith })
-    (either (Near d) (among tag pushHandlers) (record { operands = omega arith; iterators = omega arith; handlers = omega arith }) h)
+    either (Near d) (among tag (bytes iterNexts)) (record { operands = omega arith; iterators = omega arith; handlers = omega arith })
+    (either (Near d) (among tag (bytes pushHandlers)) (record { operands = omega arith; iterators = omega arith; handlers = omega arith }) h)
 
 -- ---- what the rule gives at an in-chunk start
 

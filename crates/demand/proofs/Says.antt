@@ -11,7 +11,7 @@ use native.Mathlib.Omega.{arith}
 use borrow.Author.Tests.{ltb-true, ltb-false, leb-true, leb-false}
 use lib.Dec.{ltb, leb}
 use Rattle.code.specs.Layout.{among}
-use Rattle.code.specs.Tags.{RETURN, THROW, JUMP, SWITCH}
+use Rattle.code.specs.Tags.{bytes, RETURN, THROW, JUMP, SWITCH}
 use Rattle.code.proofs.Among.{among-member, member-among}
 use Rattle.answer.specs.Answer.{unless}
 use Rattle.answer.specs.declared.Answer.{Answer}
@@ -125,17 +125,18 @@ module _ (S : Script) (span : Span) (p : ℕ) (d : Depths) where
 -- a plain instruction falls through
 pub plain-falls : (tag : ℕ) → plain tag ≡ true → falls tag ≡ true
 unfolding plain falls
-plain-falls tag q = go (among tag (RETURN ∷ THROW ∷ JUMP ∷ SWITCH ∷ [])) refl
+plain-falls tag q = go (among tag (bytes (RETURN ∷ THROW ∷ JUMP ∷ SWITCH ∷ []))) refl
   where
-    larger : tag ∈ (RETURN ∷ THROW ∷ JUMP ∷ SWITCH ∷ []) → tag ∈ (RETURN ∷ THROW ∷ SWITCH ∷ jumping)
+    larger : tag ∈ bytes (RETURN ∷ THROW ∷ JUMP ∷ SWITCH ∷ []) → tag ∈ bytes (RETURN ∷ THROW ∷ SWITCH ∷ jumping)
     larger (here e) = here e
     larger (there (here e)) = there (here e)
     larger (there (there (here e))) = there (there (there (here e)))
     larger (there (there (there (here e)))) = there (there (here e))
     larger (there (there (there (there m)))) = absurd (∉-nil m)
 
-    go : (b : Bool) → among tag (RETURN ∷ THROW ∷ JUMP ∷ SWITCH ∷ []) ≡ b → not b ≡ true
+    go : (b : Bool) → among tag (bytes (RETURN ∷ THROW ∷ JUMP ∷ SWITCH ∷ [])) ≡ b → not b ≡ true
     go false e = refl
     go true e =
-        let all = member-among tag (RETURN ∷ THROW ∷ SWITCH ∷ jumping) (larger (among-member tag (RETURN ∷ THROW ∷ JUMP ∷ SWITCH ∷ []) e)) in
+        let falling = among-member tag (bytes (RETURN ∷ THROW ∷ JUMP ∷ SWITCH ∷ [])) e in
+        let all = member-among tag (bytes (RETURN ∷ THROW ∷ SWITCH ∷ jumping)) (larger falling) in
         absurd (zero≢one (cc (ap not all)))

@@ -6,9 +6,10 @@ use Prim.Native.Nat.{ℕ, _+_, _*_, _≤_, _<_}
 use lib.Dec.{eqb}
 use lib.ListN.{length}
 use Rattle.code.specs.Layout.{among, indexAt}
-use Rattle.code.specs.Tags.{CHAIN, SWITCH}
+use Rattle.code.specs.Tags.{byte, CHAIN, SWITCH}
 use Rattle.code.specs.Width.{widthOf}
-use Rattle.listing.specs.Listing.{Start, starts, stopBy}
+use Rattle.listing.specs.Listing.{stopBy}
+use Rattle.listing.specs.Starts.{Start, starts}
 use Rattle.pools.specs.Good.{ChainsWithin, SwitchesWithin}
 use Rattle.pools.specs.Pools.{chainsIn, switchesIn}
 use Rattle.rules.specs.Script.{Script, tagOf}
@@ -20,9 +21,9 @@ use Rattle.demand.specs.Span.{Span, T, E}
 -- room
 pub record BeforeWalk (S : Script) (span : Span) (records work : ℕ) : Type 0 where
   pub decoded : stopBy widthOf (S .code) 0 ≡ length (S .code)
-  pub chain-there : (p : ℕ) → Start widthOf (S .code) p → tagOf S p ≡ CHAIN
+  pub chain-there : (p : ℕ) → Start widthOf (S .code) p → tagOf S p ≡ byte CHAIN
       → indexAt (S .code) p < chainsIn (S .pools .chains)
-  pub switch-there : (p : ℕ) → Start widthOf (S .code) p → tagOf S p ≡ SWITCH
+  pub switch-there : (p : ℕ) → Start widthOf (S .code) p → tagOf S p ≡ byte SWITCH
       → indexAt (S .code) p < switchesIn (S .pools .switches)
   pub chains-within : ChainsWithin (S .pools .chains) (S .pools .steps)
   pub switches-within : SwitchesWithin (S .pools .switches) (S .pools .cases) (S .pools .ranges)

@@ -13,7 +13,7 @@ use Rattle.answer.specs.Answer.{unless}
 use Rattle.answer.specs.declared.Answer.{Answer}
 use Rattle.answer.specs.declared.Depths.{Depths}
 use Rattle.code.specs.Layout.{among}
-use Rattle.listing.specs.Listing.{starts}
+use Rattle.listing.specs.Starts.{starts}
 use Rattle.machine.specs.Walk.{Ruling, denies, gives, Machine, Run, accepted, refused, unfinished, walk, Log, log}
 use Rattle.rules.specs.Edges.{falls, plain, targets, after, jumped, next}
 use Rattle.rules.specs.Needs.{iteratorsNeeded, handlersNeeded, lacks, operandsNeeded}

@@ -10,7 +10,7 @@ use lib.Dec.{eqb}
 use lib.ListN.{length, getD}
 use Rattle.code.specs.Layout.{among}
 use Rattle.code.specs.Width.{widthOf}
-use Rattle.listing.specs.Listing.{Start, startsBefore, starts}
+use Rattle.listing.specs.Starts.{Start, startsBefore, starts}
 use Rattle.machine.specs.Lists.{sumOf}
 use Rattle.rules.specs.Edges.{targets, degree}
 use Rattle.rules.specs.Script.{Script}

@@ -4,7 +4,7 @@
 // length is 0; no buffer overlaps another or anything that is read; and nobody else writes what is lent or read while
 // the call runs.
 ghost use lib.ListN.{length};
-ghost use Rattle.before.specs.Input.{input};
+ghost use Rattle.before.specs.Parameters.{input};
 ghost use Rattle.verify.specs.Call.{Calls};
 ghost use Rattle.grain.specs.Chunks.{spansFrom};
 use answer::verdict::Verdict;

@@ -6,11 +6,12 @@ use Prim.Native.Nat.{ℕ, _+_, _*_, _≤_, _<_}
 use borrow.Author.Tests.{eq-eqb, ne-eqb, lt-ltb, le-ltb}
 use lib.Dec.{eqb, leb, ltb}
 use lib.ListN.{length, getD}
-use Rattle.code.proofs.Widths.{wide}
+use Rattle.code.proofs.Widths.{wide, told-width}
 use Rattle.code.specs.Layout.{among, tagAt, indexAt}
+use Rattle.code.specs.Tags.{byte, bytes}
 use Rattle.code.specs.Tags.{LOAD-NAMED, CHAIN, SWITCH, CALL, CALL-THIS-REF, CALL-OP, CALL-LOCAL-REF, CALL-NAMED-REF}
-use Rattle.code.specs.Told.{Told, found, without}
-use Rattle.code.specs.Width.{widthOf, widthAt, toldAt}
+use Rattle.code.specs.Answers.{found, without, toldAt}
+use Rattle.code.specs.Width.{widthOf, widthAt}
 use Rattle.pools.specs.Pools.{chainAt, switchAt, chainWords, switchWords, chainsIn, stepsIn, switchesIn, casesIn}
 use Rattle.rules.proofs.Operands.{index-there}
 use Rattle.rules.specs.Asks.{qualifiable}
@@ -27,11 +28,11 @@ regrouped false false false false false true = refl
 regrouped false false false false false false = refl
 
 pub looks : (tag : ℕ)
-    → ((((eqb tag LOAD-NAMED || eqb tag CALL) || eqb tag CALL-OP) || eqb tag CALL-LOCAL-REF) || eqb tag CALL-NAMED-REF) || eqb tag CALL-THIS-REF
-    ≡ among tag qualifiable
+    → ((((eqb tag (byte LOAD-NAMED) || eqb tag (byte CALL)) || eqb tag (byte CALL-OP)) || eqb tag (byte CALL-LOCAL-REF)) || eqb tag (byte CALL-NAMED-REF)) || eqb tag (byte CALL-THIS-REF)
+    ≡ among tag (bytes qualifiable)
 unfolding among
 looks tag =
-    regrouped (eqb tag LOAD-NAMED) (eqb tag CALL) (eqb tag CALL-OP) (eqb tag CALL-LOCAL-REF) (eqb tag CALL-NAMED-REF) (eqb tag CALL-THIS-REF)
+    regrouped (eqb tag (byte LOAD-NAMED)) (eqb tag (byte CALL)) (eqb tag (byte CALL-OP)) (eqb tag (byte CALL-LOCAL-REF)) (eqb tag (byte CALL-NAMED-REF)) (eqb tag (byte CALL-THIS-REF))
 
 third : (a b c : Bool) → c ≡ true → a || (b || c) ≡ true
 third true b c e = refl
@@ -43,42 +44,42 @@ module _ (code : List ℕ) (at : ℕ) where
 
   pub width-found : (w : ℕ) → found w ≡ toldAt code at → true ≡ hasWidth code at
   unfolding hasWidth
-  width-found w e = sym (lt-ltb 0 w (wide widthOf code at w e .some)) ∙ ap (λ (t : Told). ltb 0 (t .value)) e
+  width-found w e = sym (lt-ltb 0 w (wide widthOf code at w e .some)) ∙ sym (ap (ltb 0) (told-width widthOf code at e))
 
   pub no-width : (why : ℕ) → without why ≡ toldAt code at → false ≡ hasWidth code at
   unfolding hasWidth
-  no-width why e = ap (λ (t : Told). ltb 0 (t .value)) e
+  no-width why e = sym (ap (ltb 0) (told-width widthOf code at e))
 
   -- ---- a name
 
   module _ (names : List ℕ) where
-    pub no-name-asked : among (tagAt code at) qualifiable ≡ false → true ≡ hasName code at names
+    pub no-name-asked : among (tagAt code at) (bytes qualifiable) ≡ false → true ≡ hasName code at names
     unfolding hasName
     no-name-asked e = rw e
 
-    pub name-asked : among (tagAt code at) qualifiable ≡ true → (i : ℕ) → i ≡ indexAt code at → ltb i (length names) ≡ hasName code at names
+    pub name-asked : among (tagAt code at) (bytes qualifiable) ≡ true → (i : ℕ) → i ≡ indexAt code at → ltb i (length names) ≡ hasName code at names
     unfolding hasName
     name-asked e i q = rw (e, q)
 
-  pub name-index : 0 < widthAt code at → among (tagAt code at) qualifiable ≡ true → at + 3 ≤ length code
+  pub name-index : 0 < widthAt code at → among (tagAt code at) (bytes qualifiable) ≡ true → at + 3 ≤ length code
   unfolding among
-  name-index h e = index-there code at h (third (eqb (tagAt code at) CHAIN) (eqb (tagAt code at) SWITCH) _ e)
+  name-index h e = index-there code at h (third (eqb (tagAt code at) (byte CHAIN)) (eqb (tagAt code at) (byte SWITCH)) _ e)
 
   -- ---- a chain
 
   module _ (chains steps : List ℕ) where
-    pub no-chain-asked : (tagAt code at ≡ CHAIN → ⊥) → true ≡ hasChain code at chains steps
+    pub no-chain-asked : (tagAt code at ≡ byte CHAIN → ⊥) → true ≡ hasChain code at chains steps
     unfolding hasChain
-    no-chain-asked n = rw (ne-eqb (tagAt code at) CHAIN n)
+    no-chain-asked n = rw (ne-eqb (tagAt code at) (byte CHAIN) n)
 
-    module _ (e : tagAt code at ≡ CHAIN) (i : ℕ) (q : i ≡ indexAt code at) where
+    module _ (e : tagAt code at ≡ byte CHAIN) (i : ℕ) (q : i ≡ indexAt code at) where
       abbrev stepsLie : Bool
       stepsLie = leb (getD chains (i * chainWords + 5) 0 + getD chains (i * chainWords + 6) 0) (stepsIn steps)
 
       asked-chain : hasChain code at chains steps
           ≡ (ltb i (chainsIn chains) && stepsLie)
       unfolding hasChain chainAt
-      asked-chain = rw (eq-eqb (tagAt code at) CHAIN e, q)
+      asked-chain = rw (eq-eqb (tagAt code at) (byte CHAIN) e, q)
 
       pub chain-past : chainsIn chains ≤ i → false ≡ hasChain code at chains steps
       chain-past l = sym (asked-chain ∙ rw (le-ltb i (chainsIn chains) l) refl)
@@ -90,11 +91,11 @@ module _ (code : List ℕ) (at : ℕ) where
   -- ---- a switch
 
   module _ (switches cases ranges : List ℕ) where
-    pub no-switch-asked : (tagAt code at ≡ SWITCH → ⊥) → true ≡ hasSwitch code at switches cases ranges
+    pub no-switch-asked : (tagAt code at ≡ byte SWITCH → ⊥) → true ≡ hasSwitch code at switches cases ranges
     unfolding hasSwitch
-    no-switch-asked n = rw (ne-eqb (tagAt code at) SWITCH n)
+    no-switch-asked n = rw (ne-eqb (tagAt code at) (byte SWITCH) n)
 
-    module _ (e : tagAt code at ≡ SWITCH) (i : ℕ) (q : i ≡ indexAt code at) where
+    module _ (e : tagAt code at ≡ byte SWITCH) (i : ℕ) (q : i ≡ indexAt code at) where
       abbrev casesLie : Bool
       casesLie = leb (getD switches (i * switchWords) 0 + getD switches (i * switchWords + 1) 0) (casesIn cases)
 
@@ -103,7 +104,7 @@ module _ (code : List ℕ) (at : ℕ) where
 
       asked-switch : hasSwitch code at switches cases ranges ≡ (ltb i (switchesIn switches) && (casesLie && rangesLie))
       unfolding hasSwitch switchAt
-      asked-switch = rw (eq-eqb (tagAt code at) SWITCH e, q)
+      asked-switch = rw (eq-eqb (tagAt code at) (byte SWITCH) e, q)
 
       pub switch-past : switchesIn switches ≤ i → false ≡ hasSwitch code at switches cases ranges
       switch-past l = sym (asked-switch ∙ rw (le-ltb i (switchesIn switches) l) refl)

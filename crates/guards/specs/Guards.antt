@@ -7,7 +7,7 @@ use Prim.Native.Nat.{ℕ, _+_}
 use lib.Dec.{eqb, leb, ltb}
 use lib.ListN.{length}
 use Rattle.code.specs.Layout.{among, tagAt, indexAt}
-use Rattle.code.specs.Tags.{CHAIN, SWITCH}
+use Rattle.code.specs.Tags.{byte, bytes, CHAIN, SWITCH}
 use Rattle.code.specs.Width.{widthAt}
 use Rattle.pools.specs.Pools.{Chain, Switch, chainAt, switchAt, chainsIn, stepsIn, switchesIn, casesIn}
 use Rattle.rules.specs.Asks.{qualifiable}
@@ -18,12 +18,12 @@ module _ (code : List ℕ) (at : ℕ) where
 
   -- the name, for the tags whose rights go by its flag
   unfoldable pub hasName : (names : List ℕ) → Bool
-  hasName names = cond (among (tagAt code at) qualifiable) (ltb (indexAt code at) (length names)) true
+  hasName names = cond (among (tagAt code at) (bytes qualifiable)) (ltb (indexAt code at) (length names)) true
 
   -- the chain that a CHAIN names, and its steps
   unfoldable pub hasChain : (chains steps : List ℕ) → Bool
   hasChain chains steps =
-      cond (eqb (tagAt code at) CHAIN)
+      cond (eqb (tagAt code at) (byte CHAIN))
       (ltb (indexAt code at) (chainsIn chains) && leb (c .firstStep + c .steps) (stepsIn steps))
       true
     where
@@ -33,7 +33,7 @@ module _ (code : List ℕ) (at : ℕ) where
   -- the switch that a SWITCH names, its cases and its ranges
   unfoldable pub hasSwitch : (switches cases ranges : List ℕ) → Bool
   hasSwitch switches cases ranges =
-      cond (eqb (tagAt code at) SWITCH)
+      cond (eqb (tagAt code at) (byte SWITCH))
       (ltb (indexAt code at) (switchesIn switches)
       && (leb (s .firstCase + s .cases) (casesIn cases) && leb (s .firstRange + s .ranges) (length ranges)))
       true

@@ -1,5 +1,5 @@
--- The table of the code, entry by entry: one computed test that each entry is written as its tag's indices, and one that
--- each index lies within its instruction; and what the code keeps are these entries.
+-- The table of the code, entry by entry: one computed test that each entry is written as its tag's indices, and one
+-- that each index lies within its instruction; and what the code keeps are these entries.
 use mathlib.Core.Bool.{Bool, true, false, _&&_}
 use mathlib.Core.List.{List, [], _∷_, List·Memᴰ, List·Memᴰ·head, List·Memᴰ·tail}
 use mathlib.Core.Path.{_≡_, refl, ap, _∙_}
@@ -10,7 +10,7 @@ use Rattle.code.specs.Layout.{Index, indices, layout, among, indicesFrom}
 use Rattle.code.specs.Width.{widthOf}
 use Rattle.code.proofs.Packed.{entry, packed-at}
 use Rattle.code.proofs.Table.{each, left, right}
-use Rattle.indices.specs.Fields.{unpacked, rows}
+use Rattle.indices.specs.Fields.{unpacked, indexRows}
 
 abbrev pub table : List ℕ
 table =
@@ -66,8 +66,8 @@ unfolding isRule
 rule tag h = same-is (unpacked (getD table tag 0)) (indices tag) (each isRule table tt tag h)
 
 -- what the code keeps of a tag is its entry
-pub row-entry : (tag : ℕ) → tag < 256 → entry 4 16 rows tag ≡ getD table tag 0
-row-entry tag h = packed-at 4 16 rows table tt tag h
+pub row-entry : (tag : ℕ) → tag < 256 → entry 4 16 indexRows tag ≡ getD table tag 0
+row-entry tag h = packed-at 4 16 indexRows table tt tag h
 
 -- each index ends within so many bytes
 abbrev pub Within : ℕ → List Index → Type 0
@@ -78,7 +78,8 @@ areWithin w [] = true
 areWithin w (i ∷ is) = leb (i .offset + 2) w && areWithin w is
 
 are-within : (w : ℕ) (is : List Index) → T (areWithin w is) → Within w is
-are-within w (j ∷ js) t i (List·Memᴰ·head q) = rw q (leb→le (j .offset + 2) w (left (leb (j .offset + 2) w) (areWithin w js) t))
+are-within w (j ∷ js) t i (List·Memᴰ·head q) =
+    rw q (leb→le (j .offset + 2) w (left (leb (j .offset + 2) w) (areWithin w js) t))
 are-within w (j ∷ js) t i (List·Memᴰ·tail m) = are-within w js (right (leb (j .offset + 2) w) (areWithin w js) t) i m
 
 isWithin : ℕ → ℕ → Bool

@@ -1,5 +1,5 @@
--- The indices among an instruction's bytes, as code finds them by its tag's entry of the table: none, or one, or a second
--- where the first is fine.
+-- The indices among an instruction's bytes, as code finds them by its tag's entry of the table: none, or one, or a
+-- second where the first is fine.
 use mathlib.Core.Bool.{cond}
 use mathlib.Core.List.{List, [], _∷_, _++_, map, List·Memᴰ, List·Memᴰ·head, List·Memᴰ·tail}
 use mathlib.Core.Path.{_≡_, refl, ap, _∙_}
@@ -12,7 +12,9 @@ use Rattle.code.specs.Layout.{Index, indices, tagAt}
 use Rattle.code.specs.Width.{widthOf, widthAt}
 use Rattle.code.proofs.Widths.{Wide, width-there}
 use Rattle.indices.specs.Fields.{digits, unpacked}
-use Rattle.indices.specs.Indices.{Ref, fine, numbered, refAt, inCode, firstBad}
+use Rattle.pools.specs.Told.{fine}
+use Rattle.indices.specs.Indices.{Ref, refAt, inCode, firstBadRef}
+use Rattle.indices.specs.Checks.{checkedTold}
 use Rattle.indices.specs.declared.Checked.{Checked}
 use Rattle.indices.specs.declared.Checked.the-variants.{Fine, Bad}
 use Rattle.indices.proofs.Laws.{goes-on, stops}
@@ -59,25 +61,25 @@ module _ (code : List ℕ) (at e : ℕ) (is : unpacked e ≡ indices (tagAt code
 
   module _ (size : ℕ → ℕ) where
     -- an entry of 0 has no index
-    pub none : e ≡ 0 → fine ≡ firstBad size (inCode code at)
-    unfolding unpacked firstBad
-    none z = ap (firstBad size) (rw z at all)
+    pub none : e ≡ 0 → fine ≡ firstBadRef size (inCode code at)
+    unfolding unpacked firstBadRef
+    none z = ap (firstBadRef size) (rw z at all)
 
-    both : (e ≡ 0 → ⊥) → firstBad size (head ++ tail) ≡ firstBad size (inCode code at)
+    both : (e ≡ 0 → ⊥) → firstBadRef size (head ++ tail) ≡ firstBadRef size (inCode code at)
     unfolding unpacked
-    both some = ap (firstBad size) (rw (ne-eqb e 0 some) at all)
+    both some = ap (firstBadRef size) (rw (ne-eqb e 0 some) at all)
 
-    module _ (some : e ≡ 0 → ⊥) {first : Checked} (found : numbered first ≡ firstBad size head) where
-      pub first-bad : {index pool : ℕ} → first ≡ Bad index pool → numbered first ≡ firstBad size (inCode code at)
+    module _ (some : e ≡ 0 → ⊥) {first : Checked} (found : checkedTold first ≡ firstBadRef size head) where
+      pub first-bad : {index pool : ℕ} → first ≡ Bad index pool → checkedTold first ≡ firstBadRef size (inCode code at)
       first-bad b = stops size tail head found b ∙ both some
 
-      rest : first ≡ Fine → firstBad size tail ≡ firstBad size (inCode code at)
+      rest : first ≡ Fine → firstBadRef size tail ≡ firstBadRef size (inCode code at)
       rest f = goes-on size tail head found f ∙ both some
 
-      pub no-second : first ≡ Fine → e % 256 ≡ 0 → fine ≡ firstBad size (inCode code at)
-      unfolding firstBad
+      pub no-second : first ≡ Fine → e % 256 ≡ 0 → fine ≡ firstBadRef size (inCode code at)
+      unfolding firstBadRef
       no-second f z = rw z at (rest f)
 
       pub a-second : first ≡ Fine → (e % 256 ≡ 0 → ⊥)
-          → firstBad size (refAt code at (digits (e % 256)) ∷ []) ≡ firstBad size (inCode code at)
+          → firstBadRef size (refAt code at (digits (e % 256)) ∷ []) ≡ firstBadRef size (inCode code at)
       a-second f more = rw (ne-eqb (e % 256) 0 more) at (rest f)

@@ -1,23 +1,17 @@
--- The references of one instruction, in the order of their tests, and the first that is bad. Document 01, "Tags": "Index
--- checks are those of `check_indices` in 000, in its order and at its offsets"; "What comes back": "6 BadIndex | index, pool
--- (constant 1, name, operator, op-assignment, chain, switch, site 7)"; "Flat pools and sizes": "Custom syntax sites: 0 for
--- now", and what roots, tails and kinds of steps there are.
+-- The references of one instruction, in the order of their tests, and the first that is bad. Document 01, "Tags":
+-- "Index checks are those of `check_indices` in 000, in its order and at its offsets"; "What comes back": "6 BadIndex |
+-- index, pool (constant 1, name, operator, op-assignment, chain, switch, site 7)"; "Flat pools and sizes": "Custom
+-- syntax sites: 0 for now", and what roots, tails and kinds of steps there are.
 use mathlib.Core.Bool.{cond}
 use mathlib.Core.List.{List, [], _∷_, _++_, map, flatMap}
-use mathlib.Core.Path.{_≡_}
-use Prim.Native.Nat.{ℕ, _+_, _<_, _≤_}
+use Prim.Native.Nat.{ℕ, _+_}
 use lib.Dec.{eqb, leb, ltb}
-use lib.ListN.{length}
-use Rattle.code.specs.Layout.{Index, indices, tagAt, indexAt, constants, names, operators, opAssignments, chains, switches}
-use Rattle.code.specs.Numbers.{little}
-use Rattle.code.specs.Tags.{CHAIN, SWITCH}
-use Rattle.pools.specs.Good.{EachSwitch, CasesWithin, ChainsWithin}
-use Rattle.pools.specs.Pools.{Pools, Chain, Step, Switch, Case, chainAt, switchAt, stepsOf, casesOf, chainsIn, switchesIn, casesIn}
-use Rattle.indices.specs.declared.Checked.{Checked}
-use Rattle.indices.specs.declared.Checked.the-variants.{Fine, Bad}
+use Rattle.code.specs.Layout.{Index, indices, tagAt, indexAt, little}
+use Rattle.code.specs.Layout.{constants, names, operators, opAssignments, chains, switches}
+use Rattle.code.specs.Tags.{byte, CHAIN, SWITCH}
+use Rattle.pools.specs.Pools.{Pools, Chain, Step, Switch, Case, chainAt, switchAt, stepsOf, casesOf}
+use Rattle.pools.specs.Told.{Told, fine}
 use Rattle.indices.specs.declared.Sizes.{Sizes}
-
--- ---- one reference
 
 -- an index, and the number of the pool that it points into
 pub record Ref : Type 0 where
@@ -37,8 +31,6 @@ sizeOf s pool =
     (cond (eqb pool chains) (s .chains)
     (cond (eqb pool switches) (s .switches) 0)))))
 
--- ---- the references of an instruction
-
 -- the tables of the records that an instruction can name
 pub record Tables : Type 0 where
   pub chains : List ℕ
@@ -46,8 +38,8 @@ pub record Tables : Type 0 where
   pub switches : List ℕ
   pub cases : List ℕ
 
-abbrev pub tables : (chains steps switches cases : List ℕ) → Tables
-tables chains steps switches cases = record { chains = chains; steps = steps; switches = switches; cases = cases }
+abbrev pub tablesOf : Pools → Tables
+tablesOf p = record { chains = p .chains; steps = p .steps; switches = p .switches; cases = p .cases }
 
 -- those among its bytes
 abbrev pub refAt : List ℕ → ℕ → Index → Ref
@@ -56,7 +48,8 @@ refAt code at i = into (i .pool) (little 2 code (at + i .offset))
 unfoldable pub inCode : List ℕ → ℕ → List Ref
 inCode code at = map (refAt code at) (indices (tagAt code at))
 
--- those of a chain: the name of a root that is Local or Named, the names of the steps, the operator of a tail that has one
+-- those of a chain: the name of a root that is Local or Named, the names of the steps, the operator of a tail that has
+-- one
 unfoldable pub rootRefs : (root name : ℕ) → List Ref
 rootRefs root name = cond (leb root 1) (into names name ∷ []) []
 
@@ -70,7 +63,8 @@ unfoldable pub tailRefs : (tail operator : ℕ) → List Ref
 tailRefs tail operator = cond (eqb tail 2) (into opAssignments operator ∷ []) []
 
 unfoldable pub chainRefs : List ℕ → Chain → List Ref
-chainRefs steps c = rootRefs (c .root) (c .name) ++ (flatMap stepRefs (stepsOf steps c) ++ tailRefs (c .tail) (c .operator))
+chainRefs steps c =
+    rootRefs (c .root) (c .name) ++ (flatMap stepRefs (stepsOf steps c) ++ tailRefs (c .tail) (c .operator))
 
 -- those of a switch: the constants of its cases
 unfoldable pub caseRefs : Case → List Ref
@@ -79,65 +73,23 @@ caseRefs c = into constants (c .constant) ∷ []
 unfoldable pub switchRefs : List ℕ → Switch → List Ref
 switchRefs cases s = flatMap caseRefs (casesOf cases s)
 
--- those of the record that it names; its index is tested before them, so what a record that is not there holds never matters
+-- those of the record that it names; its index is tested before them, so what a record that is not there holds never
+-- matters
 unfoldable pub inRecord : Tables → List ℕ → ℕ → List Ref
 inRecord t code at =
-    cond (eqb (tagAt code at) CHAIN) (chainRefs (t .steps) (chainAt (t .chains) (indexAt code at)))
-    (cond (eqb (tagAt code at) SWITCH) (switchRefs (t .cases) (switchAt (t .switches) (indexAt code at)))
+    cond (eqb (tagAt code at) (byte CHAIN)) (chainRefs (t .steps) (chainAt (t .chains) (indexAt code at)))
+    (cond (eqb (tagAt code at) (byte SWITCH)) (switchRefs (t .cases) (switchAt (t .switches) (indexAt code at)))
     [])
 
 -- all of them
 abbrev pub refs : Tables → List ℕ → ℕ → List Ref
 refs t code at = inCode code at ++ inRecord t code at
 
--- ---- the answer
-
--- what a check tells, in numbers: the kind, 0 where all is fine, and its p and q
-pub record Told : Type 0 where
-  pub kind : ℕ
-  pub p : ℕ
-  pub q : ℕ
-
-abbrev pub fine : Told
-fine = record { kind = 0; p = 0; q = 0 }
-
-abbrev pub bad : Ref → Told
-bad r = record { kind = 6; p = r .index; q = r .pool }
-
-unfoldable pub numbered : Checked → Told
-numbered Fine = fine
-numbered (Bad index pool) = bad (into pool index)
+-- BadIndex: kind 6, with the index and the pool
+abbrev pub badRef : Ref → Told
+badRef r = record { kind = 6; p = r .index; q = r .pool }
 
 -- the first reference whose index is not below the size of its pool
-unfoldable pub firstBad : (ℕ → ℕ) → List Ref → Told
-firstBad size [] = fine
-firstBad size (r ∷ rs) = cond (ltb (r .index) (size (r .pool))) (firstBad size rs) (bad r)
-
--- ---- what has to hold of the tables
-
--- the sizes are those of the tables, and every chain's steps and every switch's cases lie within theirs
-pub record Sound (sizes : Sizes) (t : Tables) : Type 0 where
-  pub chains-counted : sizes .chains ≡ chainsIn (t .chains)
-  pub switches-counted : sizes .switches ≡ switchesIn (t .switches)
-  pub chains-within : ChainsWithin (t .chains) (t .steps)
-  pub cases-within : EachSwitch (CasesWithin (casesIn (t .cases))) (t .switches)
-
--- ---- of the pools
-
--- the sizes and the tables of all that is lent
-abbrev pub sizesOf : Pools → Sizes
-sizesOf p = record {
-  constants = length (p .constants);
-  names = length (p .names);
-  tokens = p .tokens;
-  «op_assignments» = p .opAssignments;
-  chains = chainsIn (p .chains);
-  switches = switchesIn (p .switches);
-}
-
-abbrev pub tablesOf : Pools → Tables
-tablesOf p = tables (p .chains) (p .steps) (p .switches) (p .cases)
-
--- what the check of the instruction at an offset tells
-abbrev pub checkedAt : Pools → List ℕ → ℕ → Told
-checkedAt p code at = firstBad (sizeOf (sizesOf p)) (refs (tablesOf p) code at)
+unfoldable pub firstBadRef : (ℕ → ℕ) → List Ref → Told
+firstBadRef size [] = fine
+firstBadRef size (r ∷ rs) = cond (ltb (r .index) (size (r .pool))) (firstBadRef size rs) (badRef r)

@@ -5,17 +5,18 @@ ghost use Prim.Native.Nat.{_+_, _/_, _≤_, _<_};
 ghost use lib.ListN.{length, getD};
 ghost use Rattle.code.specs.Layout.{indices};
 ghost use Rattle.code.specs.Width.{widthAt};
-ghost use Rattle.indices.specs.Fields.{digits, unpacked, rows};
-ghost use Rattle.indices.specs.Indices.{firstBad, inCode, numbered, refAt, sizeOf};
+ghost use Rattle.indices.specs.Fields.{digits, unpacked, indexRows};
+ghost use Rattle.indices.specs.Indices.{firstBadRef, inCode, refAt, sizeOf};
+ghost use Rattle.indices.specs.Checks.{checkedTold};
 use super::Checked;
 use super::Sizes;
 use super::bounded;
 use super::pool;
 
-// The indices of four tags, 16 bits each, the lowest tag lowest: four hexadecimal digits, offset and pool of the first index,
-// then of the second. 0: none. The numbers stand in a `match`, since an array would be stored anew at every use.
+// The indices of four tags, 16 bits each, the lowest tag lowest: four hexadecimal digits, offset and pool of the first
+// index, then of the second. 0: none. The numbers stand in a `match`, since an array would be stored anew at every use.
 fn field_row(row: u8) -> u64
-    ensures { λ r. ⌜ r ≡ getD rows row 0 ⌝ }
+    ensures { λ r. ⌜ r ≡ getD indexRows row 0 ⌝ }
 {
     match row {
         0 => 0x0000000000000000,
@@ -67,7 +68,7 @@ fn size_of(sizes: Sizes, number: u64) -> usize
 // One index of the instruction at an offset: `field` is its offset from there and its pool, a digit each.
 fn check_field(code: &[u8], at: usize, field: u16, sizes: Sizes) -> Checked
     requires { ⌜ at + field / 16 + 2 ≤ length (now code) ⌝ }
-    ensures { λ r. ⌜ numbered r ≡ firstBad (sizeOf sizes) (refAt (now (code .entry)) at (digits field) ∷ []) ⌝ }
+    ensures { λ r. ⌜ checkedTold r ≡ firstBadRef (sizeOf sizes) (refAt (now (code .entry)) at (digits field) ∷ []) ⌝ }
 {
     let offset = (field / 16) as usize;
     let pool = (field % 16) as u64;
@@ -78,7 +79,7 @@ fn check_field(code: &[u8], at: usize, field: u16, sizes: Sizes) -> Checked
 // All indices of the instruction at an offset, up to the first bad one.
 pub fn check_fields(code: &[u8], at: usize, sizes: Sizes) -> Checked
     requires { ⌜ 0 < widthAt (now code) at ⌝ }
-    ensures { λ r. ⌜ numbered r ≡ firstBad (sizeOf sizes) (inCode (now (code .entry)) at) ⌝ }
+    ensures { λ r. ⌜ checkedTold r ≡ firstBadRef (sizeOf sizes) (inCode (now (code .entry)) at) ⌝ }
 {
     let fields = fields_of(code[at]);
     if fields == 0 {

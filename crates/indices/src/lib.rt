@@ -1,12 +1,13 @@
-// Every pool reference of one instruction is checked: the indices among its bytes, then those in the record that it names.
-// The answer is the first index that is not below the size of its pool. The record is passed once, and nothing is searched.
-// Left to others: which offsets start an instruction, whether the records' own spans lie within their tables, and what the
-// instruction does.
+// Every pool reference of one instruction is checked: the indices among its bytes, then those in the record that it
+// names. The answer is the first index that is not below the size of its pool. The record is passed once, and nothing
+// is searched. Left to others: which offsets start an instruction, whether the records' own spans lie within their
+// tables, and what the instruction does.
 ghost use mathlib.Core.Path.{_≡_};
 ghost use mathlib.Core.List.{[], _∷_};
 ghost use Prim.Native.Nat.{_<_};
 ghost use Rattle.code.specs.Width.{widthAt};
-ghost use Rattle.indices.specs.Indices.{Sound, firstBad, into, numbered, refs, sizeOf, tables};
+ghost use Rattle.indices.specs.Indices.{firstBadRef, into, refs, sizeOf};
+ghost use Rattle.indices.specs.Checks.{tables, Sound, checkedTold};
 
 mod fields;
 pub mod pool;
@@ -32,7 +33,7 @@ pub enum Checked {
 
 // One reference into a pool of a size.
 pub fn bounded(index: u32, pool: u64, size: usize) -> Checked
-    ensures { λ r. ⌜ numbered r ≡ firstBad (λ p. size) (into pool index ∷ []) ⌝ }
+    ensures { λ r. ⌜ checkedTold r ≡ firstBadRef (λ p. size) (into pool index ∷ []) ⌝ }
 {
     if (index as usize) < size {
         Checked::Fine
@@ -53,7 +54,7 @@ pub fn check_indices(
 ) -> Checked
     requires { ⌜ 0 < widthAt (now code) at ⌝ }
     requires { ⌜ Sound sizes (tables (now chains) (now steps) (now switches) (now cases)) ⌝ }
-    ensures { λ r. ⌜ numbered r ≡ firstBad (sizeOf sizes) (refs
+    ensures { λ r. ⌜ checkedTold r ≡ firstBadRef (sizeOf sizes) (refs
         (tables (now (chains .entry)) (now (steps .entry)) (now (switches .entry)) (now (cases .entry)))
         (now (code .entry)) at) ⌝ }
 {

@@ -5,7 +5,9 @@ ghost use Prim.Native.Nat.{_+_, _<_, _≤_};
 ghost use Rattle.code.specs.Layout.{names};
 ghost use Rattle.pools.specs.Good.{CasesWithin, StepsWithin};
 ghost use Rattle.pools.specs.Pools.{caseAt, casesIn, chainAt, chainsIn, entries, stepAt, stepsIn, switchAt, switchesIn};
-ghost use Rattle.indices.specs.Indices.{caseRefs, chainRefs, firstBad, into, numbered, rootRefs, sizeOf, stepRefs, switchRefs, tailRefs};
+ghost use Rattle.indices.specs.Indices.{caseRefs, chainRefs, firstBadRef, into, rootRefs, sizeOf, stepRefs};
+ghost use Rattle.indices.specs.Indices.{switchRefs, tailRefs};
+ghost use Rattle.indices.specs.Checks.{checkedTold};
 use super::Checked;
 use super::Sizes;
 use super::bounded;
@@ -49,14 +51,14 @@ const CASE_CONSTANT: usize = 1;
 
 // One name, of a root or of a step.
 fn check_name(name: u32, sizes: Sizes) -> Checked
-    ensures { λ r. ⌜ numbered r ≡ firstBad (sizeOf sizes) (into names name ∷ []) ⌝ }
+    ensures { λ r. ⌜ checkedTold r ≡ firstBadRef (sizeOf sizes) (into names name ∷ []) ⌝ }
 {
     bounded(name, pool::NAME, sizes.names)
 }
 
 // The name of a chain's root, where it has one.
 fn check_root(root: u32, name: u32, sizes: Sizes) -> Checked
-    ensures { λ r. ⌜ numbered r ≡ firstBad (sizeOf sizes) (rootRefs root name) ⌝ }
+    ensures { λ r. ⌜ checkedTold r ≡ firstBadRef (sizeOf sizes) (rootRefs root name) ⌝ }
 {
     if root <= NAMED {
         check_name(name, sizes)
@@ -67,7 +69,7 @@ fn check_root(root: u32, name: u32, sizes: Sizes) -> Checked
 
 // The operator of a chain's tail, where it has one.
 fn check_tail(tail: u32, operator: u32, sizes: Sizes) -> Checked
-    ensures { λ r. ⌜ numbered r ≡ firstBad (sizeOf sizes) (tailRefs tail operator) ⌝ }
+    ensures { λ r. ⌜ checkedTold r ≡ firstBadRef (sizeOf sizes) (tailRefs tail operator) ⌝ }
 {
     if tail == ASSIGN_WITH_OPERATOR {
         bounded(operator, pool::OP_ASSIGNMENT, sizes.op_assignments)
@@ -78,7 +80,7 @@ fn check_tail(tail: u32, operator: u32, sizes: Sizes) -> Checked
 
 // The three names of a property.
 fn check_property(name: u32, getter: u32, setter: u32, sizes: Sizes) -> Checked
-    ensures { λ r. ⌜ numbered r ≡ firstBad (sizeOf sizes)
+    ensures { λ r. ⌜ checkedTold r ≡ firstBadRef (sizeOf sizes)
         (into names name ∷ into names getter ∷ into names setter ∷ []) ⌝ }
 {
     let own = check_name(name, sizes);
@@ -95,7 +97,7 @@ fn check_property(name: u32, getter: u32, setter: u32, sizes: Sizes) -> Checked
 // The names of a step, as its kind has it.
 fn check_step(steps: &[u32], step: usize, sizes: Sizes) -> Checked
     requires { ⌜ step < stepsIn (now steps) ⌝ }
-    ensures { λ r. ⌜ numbered r ≡ firstBad (sizeOf sizes) (stepRefs (stepAt (now (steps .entry)) step)) ⌝ }
+    ensures { λ r. ⌜ checkedTold r ≡ firstBadRef (sizeOf sizes) (stepRefs (stepAt (now (steps .entry)) step)) ⌝ }
 {
     let word = step * STEP_WORDS;
     let kind = steps[word];
@@ -110,7 +112,7 @@ fn check_step(steps: &[u32], step: usize, sizes: Sizes) -> Checked
 // So many steps from a first one on, up to the first bad reference.
 fn check_steps(steps: &[u32], first: u32, count: u32, sizes: Sizes) -> Checked
     requires { ⌜ first + count ≤ stepsIn (now steps) ⌝ }
-    ensures { λ r. ⌜ numbered r ≡ firstBad (sizeOf sizes)
+    ensures { λ r. ⌜ checkedTold r ≡ firstBadRef (sizeOf sizes)
         (flatMap stepRefs (entries (stepAt (now (steps .entry))) first count)) ⌝ }
 {
     let from = first as usize;
@@ -123,12 +125,12 @@ fn check_steps(steps: &[u32], first: u32, count: u32, sizes: Sizes) -> Checked
     Checked::Fine
 }
 
-// A chain's references: its root's, its steps' and its tail's, up to the first bad one. For a caller who knows that the chain
-// is there.
+// A chain's references: its root's, its steps' and its tail's, up to the first bad one. For a caller who knows that the
+// chain is there.
 pub fn check_chain_indices(chains: &[u32], chain: usize, steps: &[u32], sizes: Sizes) -> Checked
     requires { ⌜ chain < chainsIn (now chains) ⌝ }
     requires { ⌜ StepsWithin (stepsIn (now steps)) (chainAt (now chains) chain) ⌝ }
-    ensures { λ r. ⌜ numbered r ≡ firstBad (sizeOf sizes)
+    ensures { λ r. ⌜ checkedTold r ≡ firstBadRef (sizeOf sizes)
         (chainRefs (now (steps .entry)) (chainAt (now (chains .entry)) chain)) ⌝ }
 {
     let word = chain * CHAIN_WORDS;
@@ -151,7 +153,7 @@ pub fn check_chain_indices(chains: &[u32], chain: usize, steps: &[u32], sizes: S
 // The constant of a case.
 fn check_case(cases: &[u32], case: usize, sizes: Sizes) -> Checked
     requires { ⌜ case < casesIn (now cases) ⌝ }
-    ensures { λ r. ⌜ numbered r ≡ firstBad (sizeOf sizes) (caseRefs (caseAt (now (cases .entry)) case)) ⌝ }
+    ensures { λ r. ⌜ checkedTold r ≡ firstBadRef (sizeOf sizes) (caseRefs (caseAt (now (cases .entry)) case)) ⌝ }
 {
     bounded(
         cases[case * CASE_WORDS + CASE_CONSTANT],
@@ -163,7 +165,7 @@ fn check_case(cases: &[u32], case: usize, sizes: Sizes) -> Checked
 // So many cases from a first one on, up to the first bad reference.
 fn check_cases(cases: &[u32], first: u32, count: u32, sizes: Sizes) -> Checked
     requires { ⌜ first + count ≤ casesIn (now cases) ⌝ }
-    ensures { λ r. ⌜ numbered r ≡ firstBad (sizeOf sizes)
+    ensures { λ r. ⌜ checkedTold r ≡ firstBadRef (sizeOf sizes)
         (flatMap caseRefs (entries (caseAt (now (cases .entry))) first count)) ⌝ }
 {
     let from = first as usize;
@@ -180,7 +182,7 @@ fn check_cases(cases: &[u32], first: u32, count: u32, sizes: Sizes) -> Checked
 pub fn check_switch_indices(switches: &[u32], switch: usize, cases: &[u32], sizes: Sizes) -> Checked
     requires { ⌜ switch < switchesIn (now switches) ⌝ }
     requires { ⌜ CasesWithin (casesIn (now cases)) (switchAt (now switches) switch) ⌝ }
-    ensures { λ r. ⌜ numbered r ≡ firstBad (sizeOf sizes)
+    ensures { λ r. ⌜ checkedTold r ≡ firstBadRef (sizeOf sizes)
         (switchRefs (now (cases .entry)) (switchAt (now (switches .entry)) switch)) ⌝ }
 {
     let word = switch * SWITCH_WORDS;

@@ -21,7 +21,8 @@ use Rattle.opening.specs.Records.{keys, laid}
 use Rattle.opening.proofs.Kept.{few-targets}
 use Rattle.opening.proofs.Targets.{keys-rise, few-keys}
 use Rattle.order.specs.Order.{Rising}
-use Rattle.pools.specs.Sizes.{maxCode, maxTargets}
+use Rattle.pools.specs.Sizes.{maxCode}
+use Rattle.pools.specs.Good.{maxTargets}
 use Rattle.answer.specs.declared.Answer.{Answer}
 use Rattle.answer.specs.declared.Outcome.{Outcome}
 use Rattle.answer.specs.declared.Outcome.the-variants.{Passed, Refused as Failed}

@@ -1,6 +1,7 @@
 -- The starts from a start on that lie before an end: those, and no others.
 use mathlib.Core.Bool.{Bool, true, false, cond}
-use mathlib.Core.List.{List, [], _∷_, List·Memᴰ, List·Memᴰ·head, List·Memᴰ·tail, List·Memᴰ·cases-cons, List·Memᴰ·not-nil}
+use mathlib.Core.List.{List, [], _∷_, List·Memᴰ, List·Memᴰ·head, List·Memᴰ·tail, List·Memᴰ·cases-cons}
+use mathlib.Core.List.{List·Memᴰ·not-nil}
 use mathlib.Core.Logic.{_⊎_, inl, inr}
 use mathlib.Core.Path.{_≡_, refl}
 use Prim.Native.Nat.{ℕ, _+_, _-_, _≤_, _<_}
@@ -10,9 +11,9 @@ use lib.Dec.{ltb}
 use lib.ListN.{length}
 use Rattle.code.specs.Width.{widthBy}
 use Rattle.code.proofs.Widths.{width-there}
-use Rattle.marks.specs.Marks.{Rising, empty, next as then}
+use Rattle.marks.specs.Places.{RisesFrom, empty, next as then}
 use Rattle.marks.proofs.Counts.{rising-lower, rising-length}
-use Rattle.listing.specs.Listing.{startsBefore, Start, next}
+use Rattle.listing.specs.Starts.{startsBefore, Start, next}
 use Rattle.listing.proofs.Starts.{start-wide, start-apart, start-follows}
 use Rattle.listing.proofs.WalkLaws.{Within, walk-on, walk-stop, some-or-none, from-end}
 
@@ -29,7 +30,8 @@ module _ (table : ℕ → ℕ) (code : List ℕ) (end : ℕ) where
   pub uncut : (at : ℕ) → 0 < cut at → Uncut at (cut at)
   uncut at h = go (ltb at end) refl h
     where
-      go : (t : Bool) → ltb at end ≡ t → 0 < cond t (widthBy table code at) 0 → Uncut at (cond t (widthBy table code at) 0)
+      go : (t : Bool) → ltb at end ≡ t → 0 < cond t (widthBy table code at) 0
+          → Uncut at (cond t (widthBy table code at) 0)
       go true e p = record { before = ltb-true at end e; whole = refl }
       go false e p = absurd (omega arith)
 
@@ -48,7 +50,8 @@ module _ (table : ℕ → ℕ) (code : List ℕ) (end : ℕ) where
           let p : 0 < widthBy table code at = omega (arith, u .whole) in
           omega (arith, u .whole, width-there table code at p .within)
 
-  pub before-on : (at : ℕ) → 0 < cut at → startsBefore table code end at ≡ at ∷ startsBefore table code end (at + cut at)
+  pub before-on : (at : ℕ) → 0 < cut at
+      → startsBefore table code end at ≡ at ∷ startsBefore table code end (at + cut at)
   unfolding startsBefore
   before-on at h = walk-on _∷_ (λ i. []) cut-within at h
 
@@ -57,7 +60,8 @@ module _ (table : ℕ → ℕ) (code : List ℕ) (end : ℕ) where
   before-stop at e = walk-stop _∷_ (λ i. []) cut-within at e
 
   -- each start from a start on that lies before the end is listed
-  pub start-before : {at p : ℕ} → Start table code at → Start table code p → at ≤ p → p < end → List·Memᴰ p (startsBefore table code end at)
+  pub start-before : {at p : ℕ} → Start table code at → Start table code p → at ≤ p → p < end
+      → List·Memᴰ p (startsBefore table code end at)
   start-before {at} {p} s t l h = from-end cut-within From stops goes at s l
     where
       From : ℕ → Type 0
@@ -95,13 +99,16 @@ module _ (table : ℕ → ℕ) (code : List ℕ) (end : ℕ) where
       stops at e s m = absurd (List·Memᴰ·not-nil (rw (before-stop at e) at m))
 
       goes : (at : ℕ) → 0 < cut at → From (at + cut at) → From at
-      goes at c rest s m = go (List·Memᴰ·cases-cons (rw (before-on at c) at m)) (some-or-none (widthBy table code (at + widthBy table code at)))
+      goes at c rest s m =
+          go (List·Memᴰ·cases-cons (rw (before-on at c) at m))
+          (some-or-none (widthBy table code (at + widthBy table code at)))
         where
           u : Uncut at (cut at)
           u = uncut at c
 
           go : (p ≡ at) ⊎ List·Memᴰ p (startsBefore table code end (at + cut at))
-              → (widthBy table code (at + widthBy table code at) ≡ 0) ⊎ (0 < widthBy table code (at + widthBy table code at)) → Between at p
+              → (widthBy table code (at + widthBy table code at) ≡ 0) ⊎
+              (0 < widthBy table code (at + widthBy table code at)) → Between at p
           go (inl e) n = record { start = rw e s; from-on = omega arith; before = omega (arith, u .before) }
           go (inr k) (inl z) =
               let none : cut (at + cut at) ≡ 0 = rw (u .whole) (cut-none (at + widthBy table code at) z) in
@@ -111,9 +118,9 @@ module _ (table : ℕ → ℕ) (code : List ℕ) (end : ℕ) where
               record { start = b .start; from-on = omega (arith, b .from-on); before = b .before }
 
   -- they rise, and none is past the code, so there are no more of them than bytes
-  before-rising : (at : ℕ) → Rising at (startsBefore table code end at)
+  before-rising : (at : ℕ) → RisesFrom at (startsBefore table code end at)
   before-rising =
-      from-end cut-within (λ at. Rising at (startsBefore table code end at)) (λ at e. rw (before-stop at e) empty)
+      from-end cut-within (λ at. RisesFrom at (startsBefore table code end at)) (λ at e. rw (before-stop at e) empty)
       (λ at c r. rw (before-on at c) (then {from = at} {at = at} (omega arith) (rising-lower (omega arith) r)))
 
   before-code : (at p : ℕ) → List·Memᴰ p (startsBefore table code end at) → p < length code
@@ -133,4 +140,5 @@ module _ (table : ℕ → ℕ) (code : List ℕ) (end : ℕ) where
           go (inr k) = rest p k
 
   pub before-few : (at : ℕ) → length (startsBefore table code end at) ≤ length code
-  before-few at = omega (arith, rising-length (startsBefore table code end at) (length code) (before-rising at) (before-code at))
+  before-few at =
+      omega (arith, rising-length (startsBefore table code end at) (length code) (before-rising at) (before-code at))

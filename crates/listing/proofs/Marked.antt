@@ -6,7 +6,7 @@ use Prim.Native.Nat.{ℕ}
 use borrow.Author.Tests.{eq-eqb, eqb-true}
 use Rattle.code.specs.Layout.{among}
 use Rattle.code.proofs.Among.{among-member, member-among}
-use Rattle.marks.specs.Marks.{Holds, bitAt, isOne}
+use Rattle.marks.specs.Places.{Holds, bitAt, isOne}
 
 pub told-by-marks : {marks ats : List ℕ} → Holds marks ats → (i : ℕ) → isOne (bitAt marks i) ≡ among i ats
 told-by-marks {marks} {ats} h i = by-member (among i ats) refl

@@ -3,7 +3,7 @@ use mathlib.Core.Path.{_≡_, refl, sym, ap, _∙_}
 use mathlib.Core.Logic.{_⊎_, inl, inr}
 use Prim.Native.Nat.{ℕ, zero, suc, _+_, _≤_, _<_}
 use native.Mathlib.Omega.{arith}
-use Rattle.listing.specs.Walk.{walkFor, walk}
+use Rattle.listing.specs.Starts.{inTurn}
 
 -- no instruction reaches past the end
 pub record Within (width : ℕ → ℕ) (end : ℕ) : Type 0 where
@@ -11,37 +11,40 @@ pub record Within (width : ℕ → ℕ) (end : ℕ) : Type 0 where
 
 module _ {A : Type 0} {width : ℕ → ℕ} (step : ℕ → A → A) (stop : ℕ → A) {end : ℕ} (W : Within width end) where
   -- once the end is within reach, one instruction more changes nothing
-  enough : (n at : ℕ) → end ≤ at + n → walkFor width step stop (suc n) at ≡ walkFor width step stop n at
-  unfolding walkFor
+  enough : (n at : ℕ) → end ≤ at + n → inTurn width step stop (suc n) at ≡ inTurn width step stop n at
+  unfolding inTurn
   enough zero at h = go (width at) refl
     where
-      go : (w : ℕ) → width at ≡ w → _≡_ {A = A} (elim w [ zero ↦ stop at | suc v ↦ step at (stop (at + suc v)) ]) (stop at)
+      go : (w : ℕ) → width at ≡ w
+          → _≡_ {A = A} (elim w [ zero ↦ stop at | suc v ↦ step at (stop (at + suc v)) ]) (stop at)
       go zero e = refl
       go (suc w) e = absurd (omega (arith, W .within at (omega arith)))
   enough (suc n) at h = go (width at) refl (λ w p. enough n (at + w) (omega arith))
     where
       go : (w : ℕ) → width at ≡ w
-          → ((v : ℕ) → 0 < v → walkFor width step stop (suc n) (at + v) ≡ walkFor width step stop n (at + v))
-          → _≡_ {A = A} (elim w [ zero ↦ stop at | suc v ↦ step at (walkFor width step stop (suc n) (at + suc v)) ])
-          (elim w [ zero ↦ stop at | suc v ↦ step at (walkFor width step stop n (at + suc v)) ])
+          → ((v : ℕ) → 0 < v → inTurn width step stop (suc n) (at + v) ≡ inTurn width step stop n (at + v))
+          → _≡_ {A = A} (elim w [ zero ↦ stop at | suc v ↦ step at (inTurn width step stop (suc n) (at + suc v)) ])
+          (elim w [ zero ↦ stop at | suc v ↦ step at (inTurn width step stop n (at + suc v)) ])
       go zero e more = refl
       go (suc w) e more = ap (step at) (more (suc w) (omega arith))
 
-  pub walk-on : (at : ℕ) → 0 < width at → walk width step stop end at ≡ step at (walk width step stop end (at + width at))
-  unfolding walkFor
+  pub walk-on : (at : ℕ) → 0 < width at
+      → inTurn width step stop end at ≡ step at (inTurn width step stop end (at + width at))
+  unfolding inTurn
   walk-on at h = sym (enough end at (omega arith)) ∙ go (width at) refl h
     where
       go : (w : ℕ) → width at ≡ w → 0 < w
-          → _≡_ {A = A} (elim w [ zero ↦ stop at | suc v ↦ step at (walkFor width step stop end (at + suc v)) ])
-          (step at (walkFor width step stop end (at + w)))
+          → _≡_ {A = A} (elim w [ zero ↦ stop at | suc v ↦ step at (inTurn width step stop end (at + suc v)) ])
+          (step at (inTurn width step stop end (at + w)))
       go zero e p = absurd (omega arith)
       go (suc w) e p = refl
 
-  pub walk-stop : (at : ℕ) → width at ≡ 0 → walk width step stop end at ≡ stop at
-  unfolding walkFor
+  pub walk-stop : (at : ℕ) → width at ≡ 0 → inTurn width step stop end at ≡ stop at
+  unfolding inTurn
   walk-stop at e = sym (enough end at (omega arith)) ∙ go (width at) e
     where
-      go : (w : ℕ) → w ≡ 0 → _≡_ {A = A} (elim w [ zero ↦ stop at | suc v ↦ step at (walkFor width step stop end (at + suc v)) ]) (stop at)
+      go : (w : ℕ) → w ≡ 0 → _≡_ {A = A}
+          (elim w [ zero ↦ stop at | suc v ↦ step at (inTurn width step stop end (at + suc v)) ]) (stop at)
       go zero e = refl
       go (suc w) e = absurd (omega arith)
 

@@ -1,3 +1,3 @@
-pub mod Walk
+pub mod Starts
 pub mod Listing
 pub mod Reading

@@ -17,4 +17,5 @@ module _ (table : ℕ → ℕ) (code : List ℕ) where
   pub data Reads : ℕ → List ℕ → ListedTold → Type 0 where
     ends : {at : ℕ} → 0 < listedBy table code at .number → Reads at [] (listedBy table code at)
     goes-on : {at : ℕ} {offsets : List ℕ} {ending : ListedTold} → listedBy table code at .number ≡ 0
-        → Reads (placeAfter (listedBy table code at) at) offsets ending → Reads at (listedBy table code at .at ∷ offsets) ending
+        → Reads (placeAfter (listedBy table code at) at) offsets ending
+        → Reads at (listedBy table code at .at ∷ offsets) ending

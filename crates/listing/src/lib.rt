@@ -2,7 +2,7 @@
 // Every answer is fixed by the bytes and the offset. From 0 on the answers are the starts, in order and each once, and
 // then the ending. What an instruction does is left to `rules`.
 ghost use mathlib.Core.Path.{_≡_};
-ghost use Rattle.listing.specs.Listing.{numbered, listedAt};
+ghost use Rattle.listing.specs.Listing.{itemTold, listedAt};
 
 pub mod reader;
 
@@ -25,7 +25,7 @@ pub enum Listed {
 
 // What stands at an offset.
 pub fn item_at(code: &[u8], at: usize) -> Listed
-    ensures { λ r. ⌜ numbered r ≡ listedAt (now (code .entry)) at ⌝ }
+    ensures { λ r. ⌜ itemTold r ≡ listedAt (now (code .entry)) at ⌝ }
 {
     let width = code::width_at(code, at);
     match width {

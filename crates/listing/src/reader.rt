@@ -1,8 +1,8 @@
-// A reader: the lent code and a place in it, for a caller who takes the items in turn. `take_item` gives the item at the
-// reader's place and the reader past it; after an ending the reader stays, so the same ending is read again.
-// The work is done on the slice and the offset. Functions over the struct only take it apart and put it together.
+// A reader: the lent code and a place in it, for a caller who takes the items in turn. `take_item` gives the item at
+// the reader's place and the reader past it; after an ending the reader stays, so the same ending is read again. The
+// work is done on the slice and the offset. Functions over the struct only take it apart and put it together.
 ghost use mathlib.Core.Path.{_≡_};
-ghost use Rattle.listing.specs.Listing.{numbered, listedAt};
+ghost use Rattle.listing.specs.Listing.{itemTold, listedAt};
 ghost use Rattle.listing.specs.Reading.{placeAfter};
 use super::Listed;
 use super::item_at;
@@ -28,14 +28,14 @@ pub fn from_start<'a>(code: &'a [u8]) -> Reader<'a>
 
 // What stands at the reader's place.
 pub fn next_item<'a>(r: Reader<'a>) -> Listed
-    ensures { λ item. ⌜ numbered item ≡ listedAt (now (r .entry .code)) (r .entry .at) ⌝ }
+    ensures { λ item. ⌜ itemTold item ≡ listedAt (now (r .entry .code)) (r .entry .at) ⌝ }
 {
     item_at(r.code, r.at)
 }
 
 // The place after an item that was read at `at`: past an instruction, and the same place where there is none.
 fn place_after(item: Listed, at: usize) -> usize
-    ensures { λ r. ⌜ r ≡ placeAfter (numbered item) at ⌝ }
+    ensures { λ r. ⌜ r ≡ placeAfter (itemTold item) at ⌝ }
 {
     match item {
         Listed::Instruction(i) => i.next,
@@ -46,7 +46,7 @@ fn place_after(item: Listed, at: usize) -> usize
 
 // What stands at the reader's place, and the reader past it.
 pub fn take_item<'a>(r: Reader<'a>) -> Step<'a>
-    ensures { λ s. ⌜ (numbered (s .item) ≡ listedAt (now (r .entry .code)) (r .entry .at))
+    ensures { λ s. ⌜ (itemTold (s .item) ≡ listedAt (now (r .entry .code)) (r .entry .at))
         × ((s .rest .code ≡ r .entry .code)
         × (s .rest .at ≡ placeAfter (listedAt (now (r .entry .code)) (r .entry .at)) (r .entry .at))) ⌝ }
 {
@@ -60,7 +60,7 @@ pub fn take_item<'a>(r: Reader<'a>) -> Step<'a>
 
 // What a reader at an offset reads. A caller of it names no reader.
 pub fn read_at(code: &[u8], at: usize) -> Listed
-    ensures { λ r. ⌜ numbered r ≡ listedAt (now (code .entry)) at ⌝ }
+    ensures { λ r. ⌜ itemTold r ≡ listedAt (now (code .entry)) at ⌝ }
 {
     next_item(Reader { code, at })
 }

@@ -10,7 +10,8 @@ use native.Mathlib.Omega.{arith}
 use lib.Count.{ones, ones-le}
 use lib.ListN.{length, getD, take}
 use lib.Seq.{take-length}
-use Rattle.marks.specs.Marks.{bitAt, total, onesBelow, below, Holds, Rising, empty, next, Words}
+use Rattle.marks.specs.Marks.{total}
+use Rattle.marks.specs.Places.{bitAt, onesBelow, placesBelow, Holds, RisesFrom, empty, next, Words}
 use Rattle.marks.proofs.Word.{ones-zero, ones-more}
 use Rattle.marks.proofs.Laws.{bit-either, bit-word, bit-within}
 
@@ -60,41 +61,42 @@ total-most (word ∷ words) w = omega (arith, ones-le 64 word (w 0), total-most 
 -- ---- by places
 
 -- a place below n counts one, another none
-below-more : (at n : ℕ) (ats : List ℕ) → at < n → below (at ∷ ats) n ≡ below ats n + 1
-unfolding below
+below-more : (at n : ℕ) (ats : List ℕ) → at < n → placesBelow (at ∷ ats) n ≡ placesBelow ats n + 1
+unfolding placesBelow
 below-more at n ats h = rw (if-pos (decLt at n) h) (omega arith)
 
-below-skip : (at n : ℕ) (ats : List ℕ) → n ≤ at → below (at ∷ ats) n ≡ below ats n
-unfolding below
+below-skip : (at n : ℕ) (ats : List ℕ) → n ≤ at → placesBelow (at ∷ ats) n ≡ placesBelow ats n
+unfolding placesBelow
 below-skip at n ats h = rw (if-neg (decLt at n) (omega arith))
 
 -- ---- places that rise
 
 -- places that rise from a number rise from any lower one
-pub rising-lower : {lower from : ℕ} {ats : List ℕ} → lower ≤ from → Rising from ats → Rising lower ats
+pub rising-lower : {lower from : ℕ} {ats : List ℕ} → lower ≤ from → RisesFrom from ats → RisesFrom lower ats
 rising-lower h empty = empty
 rising-lower h (next l r) = next (le-trans h l) r
 
 -- each of them is at least `from`
-pub rising-least : {from i : ℕ} {ats : List ℕ} → Rising from ats → List·Memᴰ i ats → from ≤ i
+pub rising-least : {from i : ℕ} {ats : List ℕ} → RisesFrom from ats → List·Memᴰ i ats → from ≤ i
 rising-least (next l r) (List·Memᴰ·head e) = omega arith
 rising-least (next l r) (List·Memᴰ·tail m) = omega (arith, rising-least r m)
 
 -- below n there are at most `n - from` of them
-pub rising-length : {from : ℕ} (ats : List ℕ) (n : ℕ) → Rising from ats → ((i : ℕ) → List·Memᴰ i ats → i < n)
+pub rising-length : {from : ℕ} (ats : List ℕ) (n : ℕ) → RisesFrom from ats → ((i : ℕ) → List·Memᴰ i ats → i < n)
     → length ats ≤ n - from
 rising-length [] n empty h = omega arith
 rising-length (at ∷ ats) n (next l r) h =
     omega (arith, h at (List·Memᴰ·head refl), rising-length ats n r (λ i m. h i (List·Memᴰ·tail m)))
 
 -- and below `from` there is none
-below-least : {from : ℕ} (ats : List ℕ) (n : ℕ) → Rising from ats → n ≤ from → below ats n ≡ 0
-unfolding below
+below-least : {from : ℕ} (ats : List ℕ) (n : ℕ) → RisesFrom from ats → n ≤ from → placesBelow ats n ≡ 0
+unfolding placesBelow
 below-least [] n empty h = refl
 below-least (at ∷ ats) n (next l r) h = below-skip at n ats (omega arith) ∙ below-least ats n r (omega arith)
 
 -- a bound moved past one of the places counts one more
-below-in : {from : ℕ} (ats : List ℕ) (n : ℕ) → Rising from ats → List·Memᴰ n ats → below ats (suc n) ≡ below ats n + 1
+below-in : {from : ℕ} (ats : List ℕ) (n : ℕ) → RisesFrom from ats → List·Memᴰ n ats
+    → placesBelow ats (suc n) ≡ placesBelow ats n + 1
 below-in (at ∷ ats) n (next l r) (List·Memᴰ·head e) =
     omega (
       arith,
@@ -108,37 +110,39 @@ below-in (at ∷ ats) n (next l r) (List·Memᴰ·tail m) =
     omega (arith, below-more at (suc n) ats (omega arith), below-more at n ats above, below-in ats n r m)
 
 -- and past any other number no more
-below-out : (ats : List ℕ) (n : ℕ) → (List·Memᴰ n ats → ⊥) → below ats (suc n) ≡ below ats n
-unfolding below
+below-out : (ats : List ℕ) (n : ℕ) → (List·Memᴰ n ats → ⊥) → placesBelow ats (suc n) ≡ placesBelow ats n
+unfolding placesBelow
 below-out [] n o = refl
 below-out (at ∷ ats) n o =
     let other : n ≢ at = λ q. o (List·Memᴰ·head q) in
-    let rest : below ats (suc n) ≡ below ats n = below-out ats n (λ m. o (List·Memᴰ·tail m)) in
+    let rest : placesBelow ats (suc n) ≡ placesBelow ats n = below-out ats n (λ m. o (List·Memᴰ·tail m)) in
     elim (decLt at n) [
       | yes l ↦ omega (arith, below-more at (suc n) ats (omega arith), below-more at n ats l)
       | no g ↦ omega (arith, below-skip at (suc n) ats (omega arith), below-skip at n ats (omega arith))
     ]
 
 -- below a bound as many places are set as there are among those that the marks hold
-pub holds-below : {from : ℕ} (marks ats : List ℕ) → Holds marks ats → Rising from ats → (n : ℕ) → onesBelow marks n ≡ below ats n
+pub holds-below : {from : ℕ} (marks ats : List ℕ) → Holds marks ats → RisesFrom from ats → (n : ℕ)
+    → onesBelow marks n ≡ placesBelow ats n
 unfolding onesBelow
 holds-below marks ats h r zero = sym (below-least ats 0 r (omega arith))
 holds-below marks ats h r (suc n) =
-    let before : onesBelow marks n ≡ below ats n = holds-below marks ats h r n in
+    let before : onesBelow marks n ≡ placesBelow ats n = holds-below marks ats h r n in
     ⊎-elim
     (λ (e : bitAt marks n ≡ 0). omega (arith, below-out ats n (λ m. omega (arith, h .set n m))))
     (λ (e : bitAt marks n ≡ 1). omega (arith, below-in ats n r (h .only n e)))
     (bit-either marks n)
 
 -- where all lie below n, all count
-pub below-all : (ats : List ℕ) (n : ℕ) → ((i : ℕ) → List·Memᴰ i ats → i < n) → below ats n ≡ length ats
-unfolding below
+pub below-all : (ats : List ℕ) (n : ℕ) → ((i : ℕ) → List·Memᴰ i ats → i < n) → placesBelow ats n ≡ length ats
+unfolding placesBelow
 below-all [] n h = refl
 below-all (at ∷ ats) n h =
     omega (arith, below-more at n ats (h at (List·Memᴰ·head refl)), below-all ats n (λ i m. h i (List·Memᴰ·tail m)))
 
 -- marks that hold places that rise have as many ones as there are places
-pub holds-total : {from : ℕ} (marks ats : List ℕ) → Words marks → Holds marks ats → Rising from ats → total marks ≡ length ats
+pub holds-total : {from : ℕ} (marks ats : List ℕ) → Words marks → Holds marks ats → RisesFrom from ats
+    → total marks ≡ length ats
 holds-total marks ats w h r =
     total-below marks w
     ∙ holds-below marks ats h r (64 * length marks)

@@ -1,7 +1,8 @@
 -- The laws of marks: what setting one place or several does to the bits, the words and the count of ones, and that the
 -- bits tell the words.
 use mathlib.Core.Path.{_≡_, refl, sym, _∙_}
-use mathlib.Core.List.{List, [], _∷_, List·Memᴰ, List·Memᴰ·head, List·Memᴰ·tail, List·Memᴰ·not-nil, List·Memᴰ·cases-cons}
+use mathlib.Core.List.{List, [], _∷_, List·Memᴰ, List·Memᴰ·head, List·Memᴰ·tail, List·Memᴰ·not-nil}
+use mathlib.Core.List.{List·Memᴰ·cases-cons}
 use mathlib.Core.Logic.{_⊎_, ⊎-elim, _≢_}
 use Prim.Native.Nat.{ℕ, zero, suc, _+_, _*_, _/_, _%_, _^_, _≤_, _<_}
 use native.Mathlib.Decide.{decLt, ℕ-discrete}
@@ -13,8 +14,10 @@ use lib.Dec.{lit<}
 use lib.ListN.{length, getD, set, replicate, length-set, length-replicate, List·getD-eq-default}
 use lib.Pow.{pow-lt}
 use lib.Seq.{getD-set-same, getD-set-other, set-out, set-getD, ext-getD}
-use Rattle.marks.specs.Marks.{bitAt, marked, markedAll, total, Holds, Within, Words}
-use Rattle.marks.proofs.Word.{digit, zero-or-one, same-digits, ones-zero, digit-set, digit-kept, set-again, set-clear}
+use Rattle.marks.specs.Marks.{marked, markedAll, total}
+use Rattle.marks.specs.Places.{bitAt, Holds, InWords, Words}
+use Rattle.marks.proofs.Word.{digit, zero-or-one, same-digits, ones-zero, digit-set, digit-kept, set-again}
+use Rattle.marks.proofs.Word.{set-clear}
 
 -- ---- the bit of a place
 
@@ -153,7 +156,8 @@ all-kept marks [] i e = e
 all-kept marks (at ∷ ats) i e = all-kept (marked marks at) ats i (bit-kept marks at i e)
 
 -- each of the places is set
-pub all-in : (marks ats : List ℕ) → Within (length marks) ats → (i : ℕ) → List·Memᴰ i ats → bitAt (markedAll marks ats) i ≡ 1
+pub all-in : (marks ats : List ℕ) → InWords (length marks) ats → (i : ℕ) → List·Memᴰ i ats
+    → bitAt (markedAll marks ats) i ≡ 1
 unfolding markedAll
 all-in marks (at ∷ ats) h i (List·Memᴰ·head e) =
     all-kept (marked marks at) ats i (rw e (bit-same marks at (h at (List·Memᴰ·head refl))))
@@ -178,7 +182,7 @@ mem? i (at ∷ ats) = go (ℕ-discrete i at) (mem? i ats)
     go (no n) (no o) = no (λ m. ⊎-elim n o (List·Memᴰ·cases-cons m))
 
 -- from cleared marks exactly the places are set
-pub holds-all : (n : ℕ) (ats : List ℕ) → Within n ats → Holds (markedAll (replicate n 0) ats) ats
+pub holds-all : (n : ℕ) (ats : List ℕ) → InWords n ats → Holds (markedAll (replicate n 0) ats) ats
 holds-all n ats h = record {
   set = all-in (replicate n 0) ats (rw length-replicate h);
   only = λ i e. elim (mem? i ats) [
@@ -200,7 +204,8 @@ same-bits a b v w e h =
 holds-bit : (a b ats : List ℕ) → Holds a ats → Holds b ats → (i : ℕ) → bitAt a i ≡ bitAt b i
 holds-bit a b ats h g i =
     ⊎-elim
-    (λ (e : bitAt a i ≡ 0). ⊎-elim (λ f. e ∙ sym f) (λ f. absurd (omega (arith, h .set i (g .only i f)))) (bit-either b i))
+    (λ (e : bitAt a i ≡ 0).
+    ⊎-elim (λ f. e ∙ sym f) (λ f. absurd (omega (arith, h .set i (g .only i f)))) (bit-either b i))
     (λ (e : bitAt a i ≡ 1). e ∙ sym (g .set i (h .only i e)))
     (bit-either a i)
 

@@ -3,7 +3,8 @@ use mathlib.Core.Path.{_≡_, refl, sym, ap, ap₂, _∙_}
 use mathlib.Core.Logic.{_⊎_, inl, inr, _≢_}
 use Prim.Native.Nat.{ℕ, zero, suc, _+_, _-_, _*_, _/_, _%_, _^_, _<_}
 use native.Mathlib.Decide.{decLt}
-use native.Mathlib.Nat.{add-zero, one-mul, mod-lt, mod-eq-of-lt, div-eq-of-lt, div-self, mul-div-cancel, mul-mod-left, pow-suc, mod-one}
+use native.Mathlib.Nat.{add-zero, one-mul, mod-lt, mod-eq-of-lt, div-eq-of-lt, div-self, mul-div-cancel, mul-mod-left}
+use native.Mathlib.Nat.{pow-suc, mod-one}
 use native.Mathlib.Numerals.{one-add}
 use native.Mathlib.Omega.{arith}
 use lib.Bits.{bitOr, or-shr, or-mod, or-block, or-step, or-zero-r}

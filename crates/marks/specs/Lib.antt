@@ -1,2 +1,2 @@
--- The definitions that contracts and laws cite.
 pub mod Marks
+pub mod Places

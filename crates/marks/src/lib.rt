@@ -4,7 +4,8 @@
 ghost use mathlib.Core.Path.{_≡_};
 ghost use Prim.Native.Nat.{_/_, _^_, _<_};
 ghost use lib.ListN.{length, replicate};
-ghost use Rattle.marks.specs.Marks.{bitAt, isOne, marked, total};
+ghost use Rattle.marks.specs.Marks.{marked, total};
+ghost use Rattle.marks.specs.Places.{bitAt, isOne};
 
 // Clears every place.
 pub fn clear(marks: &mut [u64])

@@ -9,15 +9,16 @@ use borrow.Author.Tests.{lt-ltb, le-ltb, eqb-true}
 use lib.Dec.{eqb}
 use lib.ListN.{length}
 use Rattle.code.specs.Layout.{among, tagAt, indexAt}
-use Rattle.code.specs.Tags.{SWITCH}
+use Rattle.code.specs.Tags.{byte, bytes, SWITCH}
 use Rattle.code.specs.Width.{widthOf, widthAt}
 use Rattle.code.proofs.Among.{among-member}
 use Rattle.code.proofs.Widths.{width-there}
-use Rattle.listing.specs.Listing.{Start, starts, startsBefore}
+use Rattle.listing.specs.Starts.{Start, starts, startsBefore}
 use Rattle.listing.proofs.Before.{before-on, before-stop, cut}
 use Rattle.listing.proofs.Starts.{listed-start, start-wide, start-next}
 use Rattle.pools.specs.Pools.{switchAt}
-use Rattle.pools.specs.Sizes.{maxCode, maxTargets}
+use Rattle.pools.specs.Sizes.{maxCode}
+use Rattle.pools.specs.Good.{maxTargets}
 use Rattle.pools.proofs.Most.{room-small}
 use Rattle.rules.specs.Edges.{jumping, armsOf, targetsOf, falls}
 use Rattle.machine.specs.Lists.{sumOf}
@@ -87,19 +88,19 @@ module _ (code switches cases ranges : List ℕ) where
   module _ (L : Listable code switches cases ranges) where
     pub few-targets : {p : ℕ} → Start widthOf code p → length (targetsAt code switches cases ranges p) ≤ maxTargets
     unfolding targetsOf
-    few-targets {p} s = rw length-cond (go (among (tagAt code p) jumping) (eqb (tagAt code p) SWITCH) refl)
+    few-targets {p} s = rw length-cond (go (among (tagAt code p) (bytes jumping)) (eqb (tagAt code p) (byte SWITCH)) refl)
       where
         arms : List ℕ
         arms = armsOf cases ranges (switchAt switches (indexAt code p))
 
-        few-arms : tagAt code p ≡ SWITCH → length arms ≤ maxTargets
+        few-arms : tagAt code p ≡ byte SWITCH → length arms ≤ maxTargets
         few-arms e =
             let w = L .switch-there p s .switch e in
             omega (arith, arms-length cases ranges (switchAt switches (indexAt code p)), w .cases-within, w .ranges-within, L .few-cases, L .few-ranges)
 
-        go : (a b : Bool) → eqb (tagAt code p) SWITCH ≡ b → cond a 1 (cond b (length arms) 0) ≤ maxTargets
+        go : (a b : Bool) → eqb (tagAt code p) (byte SWITCH) ≡ b → cond a 1 (cond b (length arms) 0) ≤ maxTargets
         go true b e = omega arith
-        go false true e = few-arms (eqb-true (tagAt code p) SWITCH e)
+        go false true e = few-arms (eqb-true (tagAt code p) (byte SWITCH) e)
         go false false e = omega arith
 
     module _ {entry end : ℕ} (I : InCode code entry end) where

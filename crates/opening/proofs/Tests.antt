@@ -9,9 +9,9 @@ use borrow.Author.Tests.{ltb-false, lt-ltb, le-ltb, eq-eqb, ne-eqb}
 use lib.Dec.{ltb, eqb}
 use lib.ListN.{length}
 use Rattle.code.specs.Layout.{among}
-use Rattle.listing.specs.Listing.{starts}
+use Rattle.listing.specs.Starts.{starts}
 use Rattle.listing.proofs.Marked.{told-by-marks}
-use Rattle.marks.specs.Marks.{bitAt, isOne}
+use Rattle.marks.specs.Places.{bitAt, isOne}
 use Rattle.answer.specs.declared.Answer.{Answer}
 use Rattle.answer.specs.declared.Answer.the-variants.{NoRoom, ChunkOutOfRange, Misaligned}
 use Rattle.demand.specs.Chunk.{spanTest, roomTest}

@@ -10,7 +10,7 @@ use lib.ListN.{length, replicate}
 use lib.Seq.{sets}
 use Rattle.code.specs.Layout.{tagAt}
 use Rattle.code.specs.Width.{widthOf}
-use Rattle.listing.specs.Listing.{startsBefore}
+use Rattle.listing.specs.Starts.{startsBefore}
 use Rattle.machine.specs.Lists.{sumOf}
 use Rattle.rules.specs.Edges.{falls, targetsOf}
 use Rattle.opening.specs.declared.Tally.{Tally}

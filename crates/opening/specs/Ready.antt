@@ -6,8 +6,9 @@ use Prim.Native.Nat.{ℕ, _≤_}
 use lib.ListN.{length}
 use Rattle.code.specs.Width.{widthOf}
 use Rattle.demand.specs.Span.{Span}
-use Rattle.listing.specs.Listing.{Start, starts, stopBy}
-use Rattle.marks.specs.Marks.{Holds}
+use Rattle.listing.specs.Listing.{stopBy}
+use Rattle.listing.specs.Starts.{Start, starts}
+use Rattle.marks.specs.Places.{Holds}
 use Rattle.pools.specs.Good.{ChainsWithin, SwitchesWithin}
 use Rattle.pools.specs.Pools.{casesIn}
 use Rattle.pools.specs.Sizes.{maxCode, maxEntries}

@@ -5,8 +5,8 @@ use mathlib.Core.Path.{_≡_, refl}
 use Prim.Native.Nat.{ℕ}
 use Rattle.pools.specs.Pools.{entries, chainAt, stepAt, switchAt}
 use Rattle.pools.specs.Sizes.{maxCode, limits, tells, firstOver, firstExceeded}
-use Rattle.pools.specs.Tables.{ragged, badChain, badStep, badSwitch, wholeTable, firstBad}
-use Rattle.pools.specs.Told.{fine, badTable, first, firstFrom}
+use Rattle.pools.specs.Tables.{ragged, badChain, badStep, badSwitch, wholeTable, firstBadTable}
+use Rattle.pools.specs.Told.{fine, badTable, firstTold, firstFrom}
 use Rattle.pools.specs.declared.limits.Sizes.{Sizes}
 
 -- ---- first + count
@@ -16,18 +16,18 @@ abbrev naming : (first count : ℕ) → List ℕ
 naming first count = first ∷ count ∷ 0 ∷ 0 ∷ 0 ∷ []
 
 -- where there is one case, none from the end on is good
-at-the-end : firstBad [] [] (naming 1 0) (0 ∷ 0 ∷ []) [] ≡ fine
-unfolding firstBad wholeTable ragged first firstFrom entries switchAt badSwitch
+at-the-end : firstBadTable [] [] (naming 1 0) (0 ∷ 0 ∷ []) [] ≡ fine
+unfolding firstBadTable wholeTable ragged firstTold firstFrom entries switchAt badSwitch
 at-the-end = refl
 
 -- and none from past the end on is bad, though it names nothing
-past-the-end : firstBad [] [] (naming 2 0) (0 ∷ 0 ∷ []) [] ≡ record { kind = 2; p = 3; q = 0 }
-unfolding firstBad wholeTable ragged first firstFrom entries switchAt badSwitch
+past-the-end : firstBadTable [] [] (naming 2 0) (0 ∷ 0 ∷ []) [] ≡ record { kind = 2; p = 3; q = 0 }
+unfolding firstBadTable wholeTable ragged firstTold firstFrom entries switchAt badSwitch
 past-the-end = refl
 
 -- a sum that would be 0 in 32 bits is bad
-past-32-bits : firstBad [] [] (naming 4294967295 1) (0 ∷ 0 ∷ []) [] ≡ badTable 3 0
-unfolding firstBad wholeTable ragged first firstFrom entries switchAt badSwitch
+past-32-bits : firstBadTable [] [] (naming 4294967295 1) (0 ∷ 0 ∷ []) [] ≡ badTable 3 0
+unfolding firstBadTable wholeTable ragged firstTold firstFrom entries switchAt badSwitch
 past-32-bits = refl
 
 -- ---- which is told
@@ -37,23 +37,23 @@ rooted : List ℕ
 rooted = 4 ∷ 0 ∷ 0 ∷ 0 ∷ 0 ∷ 0 ∷ 0 ∷ []
 
 -- a bad entry is told by the table that it stands in, also where it reaches past another
-by-its-own-table : firstBad (0 ∷ 0 ∷ 0 ∷ 0 ∷ 0 ∷ 0 ∷ 1 ∷ []) [] [] [] [] ≡ badTable 1 0
-unfolding firstBad wholeTable ragged first firstFrom entries chainAt badChain
+by-its-own-table : firstBadTable (0 ∷ 0 ∷ 0 ∷ 0 ∷ 0 ∷ 0 ∷ 1 ∷ []) [] [] [] [] ≡ badTable 1 0
+unfolding firstBadTable wholeTable ragged firstTold firstFrom entries chainAt badChain
 by-its-own-table = refl
 
 -- a ragged table before any bad entry, with the number of its whole ones
-ragged-before-entries : firstBad rooted [] [] (0 ∷ 0 ∷ 0 ∷ []) [] ≡ badTable 4 1
-unfolding firstBad wholeTable ragged first firstFrom entries chainAt badChain rooted
+ragged-before-entries : firstBadTable rooted [] [] (0 ∷ 0 ∷ 0 ∷ []) [] ≡ badTable 4 1
+unfolding firstBadTable wholeTable ragged firstTold firstFrom entries chainAt badChain rooted
 ragged-before-entries = refl
 
 -- a bad chain before a bad step
-chains-before-steps : firstBad rooted (3 ∷ 0 ∷ 0 ∷ 0 ∷ []) [] [] [] ≡ badTable 1 0
-unfolding firstBad wholeTable ragged first firstFrom entries chainAt badChain rooted
+chains-before-steps : firstBadTable rooted (3 ∷ 0 ∷ 0 ∷ 0 ∷ []) [] [] [] ≡ badTable 1 0
+unfolding firstBadTable wholeTable ragged firstTold firstFrom entries chainAt badChain rooted
 chains-before-steps = refl
 
 -- the first bad step, and not the last
-first-step : firstBad [] (2 ∷ 0 ∷ 0 ∷ 0 ∷ 3 ∷ 0 ∷ 0 ∷ 0 ∷ 4 ∷ 0 ∷ 0 ∷ 0 ∷ []) [] [] [] ≡ badTable 2 1
-unfolding firstBad wholeTable ragged first firstFrom entries stepAt badStep
+first-step : firstBadTable [] (2 ∷ 0 ∷ 0 ∷ 0 ∷ 3 ∷ 0 ∷ 0 ∷ 0 ∷ 4 ∷ 0 ∷ 0 ∷ 0 ∷ []) [] [] [] ≡ badTable 2 1
+unfolding firstBadTable wholeTable ragged firstTold firstFrom entries stepAt badStep
 first-step = refl
 
 -- ---- limits
@@ -76,9 +76,9 @@ sized n = record {
 
 -- of several limits that are exceeded the first in the order is told
 chains-before-chunks : firstExceeded (sized 65536) ≡ record { kind = 1; p = 9; q = 0 }
-unfolding firstOver tells limits first maxCode
+unfolding firstOver tells limits firstTold maxCode
 chains-before-chunks = refl
 
 cases-before-chains : firstExceeded (sized 65537) .p ≡ 7
-unfolding firstOver tells limits first maxCode
+unfolding firstOver tells limits firstTold maxCode
 cases-before-chains = refl

@@ -8,15 +8,15 @@ use native.Mathlib.Decide.{ℕ-discrete}
 use native.Mathlib.Omega.{arith}
 use borrow.Author.Tests.{eq-eqb, ne-eqb}
 use Rattle.pools.specs.Pools.{entries}
-use Rattle.pools.specs.Told.{Told, fine, first, firstFrom}
+use Rattle.pools.specs.Told.{Told, fine, firstTold, firstFrom}
 
 -- a test that passes leaves it to the others, and one that refuses does not
-pub passes-on : (test : Told) (tests : List Told) → test .kind ≡ 0 → first (test ∷ tests) ≡ first tests
-unfolding first
+pub passes-on : (test : Told) (tests : List Told) → test .kind ≡ 0 → firstTold (test ∷ tests) ≡ firstTold tests
+unfolding firstTold
 passes-on test tests e = simp (eq-eqb (test .kind) 0 e)
 
-pub refuses-here : (test : Told) (tests : List Told) → 0 < test .kind → first (test ∷ tests) ≡ test
-unfolding first
+pub refuses-here : (test : Told) (tests : List Told) → 0 < test .kind → firstTold (test ∷ tests) ≡ test
+unfolding firstTold
 refuses-here test tests h = simp (ne-eqb (test .kind) 0 (λ e. omega arith))
 
 -- ---- a loop over n tests, upward

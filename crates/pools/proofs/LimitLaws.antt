@@ -1,5 +1,5 @@
 -- What the limits tell: none is exceeded exactly where each count is within its limit, and otherwise the first that is
--- exceeded is named. All of it holds of any list of limits, so that it does not change with them.
+-- exceeded is named. All but the last part holds of any list of limits, so that it does not change with them.
 use mathlib.Core.Bool.{Bool, true, false}
 use mathlib.Core.List.{List, [], _∷_, _++_, map, List·Memᴰ, List·Memᴰ·head, List·Memᴰ·tail}
 use mathlib.Core.Path.{_≡_, refl, sym, ap, _∙_}
@@ -10,9 +10,9 @@ use native.Mathlib.Omega.{arith}
 use borrow.Author.Tests.{ltb-false}
 use lib.ListN.{length, drop, getD}
 use lib.Seq.{drop-cons, drop-length}
-use Rattle.pools.specs.Sizes.{maxCode, maxEntries, maxChunks, limits}
-use Rattle.pools.specs.Sizes.{tells, firstOver, firstExceeded, AllKept, Within}
-use Rattle.pools.specs.Told.{Told, fine, overLimit, first}
+use Rattle.pools.specs.Sizes.{maxCode, maxEntries, maxChunks, limits, tells, firstOver, firstExceeded}
+use Rattle.pools.specs.Good.{AllKept, Within}
+use Rattle.pools.specs.Told.{Told, fine, overLimit, firstTold}
 use Rattle.pools.specs.declared.limits.Limit.{Limit}
 use Rattle.pools.specs.declared.limits.Sizes.{Sizes}
 use Rattle.pools.proofs.First.{passes-on, refuses-here}
@@ -61,7 +61,7 @@ module _ {ls : List Limit} where
     at-exceeded l h e = sym (exceeded-first (getD ls at l) _ e) ∙ in-hand l h
 
     pub past-last : length ls ≤ at → fine ≡ firstOver ls
-    unfolding firstOver first
+    unfolding firstOver firstTold
     past-last h =
         let end : at ≡ length ls = omega (arith, inv .within) in
         rw (end, drop-length ls) at (inv .so-far)
@@ -86,7 +86,7 @@ all-kept-more l ls e k m (List·Memᴰ·head q) = rw q e
 all-kept-more l ls e k m (List·Memᴰ·tail r) = k m r
 
 pub told-by : (ls : List Limit) → Outcome ls (firstOver ls)
-unfolding firstOver first
+unfolding firstOver firstTold
 told-by [] = none (λ l m. elim m [ ]) refl
 told-by (l ∷ ls) = go (l .1) refl (told-by ls)
   where
@@ -116,7 +116,7 @@ kept-within s z = go (told-by (limits s))
     go (first-is l f e) = absurd (omega (arith, ap (λ (t : Told). t .kind) e))
 
 all-kept-tell : (ls : List Limit) → AllKept ls → firstOver ls ≡ fine
-unfolding firstOver first
+unfolding firstOver firstTold
 all-kept-tell [] k = refl
 all-kept-tell (l ∷ ls) k =
     kept-first l ls (k l (List·Memᴰ·head refl)) ∙ all-kept-tell ls (λ m r. k m (List·Memᴰ·tail r))

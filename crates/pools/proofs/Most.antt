@@ -2,7 +2,8 @@
 -- one edit of the definition and one of the code.
 use Prim.Native.Nat.{_+_, _*_, _^_, _<_}
 use native.Mathlib.Omega.{arith}
-use Rattle.pools.specs.Sizes.{maxCode, maxTargets}
+use Rattle.pools.specs.Sizes.{maxCode}
+use Rattle.pools.specs.Good.{maxTargets}
 
 -- offsets, depths and counts of instructions fit 32 bits
 pub code-small : maxCode < 2 ^ 21

@@ -2,8 +2,7 @@
 use mathlib.Core.Bool.{cond}
 use mathlib.Core.Path.{_≡_, refl, sym, ap, _∙_}
 use lib.Dec.{eqb}
-use Rattle.pools.specs.Sizes as sizes
-use Rattle.pools.specs.Tables as tables
+use Rattle.pools.specs.Answers.{limitsTold, tablesTold}
 use Rattle.pools.specs.Told.{Told}
 use Rattle.pools.specs.declared.limits.Limits.{Limits}
 use Rattle.pools.specs.declared.limits.Limits.the-variants.{Kept, Exceeded}
@@ -18,21 +17,21 @@ read-back told back same a b e = sym (same a) ∙ ap back e ∙ same b
 limits-back : Told → Limits
 limits-back t = cond (eqb (t .kind) 0) Kept (Exceeded (t .p))
 
-limits-same : (l : Limits) → limits-back (sizes.numbered l) ≡ l
-unfolding sizes.numbered limits-back
+limits-same : (l : Limits) → limits-back (limitsTold l) ≡ l
+unfolding limitsTold limits-back
 limits-same Kept = refl
 limits-same (Exceeded number) = refl
 
-pub one-limits : (a b : Limits) → sizes.numbered a ≡ sizes.numbered b → a ≡ b
-one-limits = read-back sizes.numbered limits-back limits-same
+pub one-limits : (a b : Limits) → limitsTold a ≡ limitsTold b → a ≡ b
+one-limits = read-back limitsTold limits-back limits-same
 
 tables-back : Told → Tables
 tables-back t = cond (eqb (t .kind) 0) Good (Bad (t .p) (t .q))
 
-tables-same : (t : Tables) → tables-back (tables.numbered t) ≡ t
-unfolding tables.numbered tables-back
+tables-same : (t : Tables) → tables-back (tablesTold t) ≡ t
+unfolding tablesTold tables-back
 tables-same Good = refl
 tables-same (Bad table entry) = refl
 
-pub one-tables : (a b : Tables) → tables.numbered a ≡ tables.numbered b → a ≡ b
-one-tables = read-back tables.numbered tables-back tables-same
+pub one-tables : (a b : Tables) → tablesTold a ≡ tablesTold b → a ≡ b
+one-tables = read-back tablesTold tables-back tables-same

@@ -8,12 +8,11 @@ use native.Mathlib.Omega.{arith}
 use borrow.Author.Tests.{lt-ltb, le-ltb, ltb-false}
 use lib.ListN.{length}
 use Rattle.pools.specs.Good.{Whole, AllWhole, GoodChains, GoodSteps, GoodTables, ChainsWithin, SwitchesWithin}
-use Rattle.pools.specs.Pools.{chainAt, stepAt, switchAt}
-use Rattle.pools.specs.Pools.{chainWords, stepWords, switchWords, caseWords}
+use Rattle.pools.specs.Pools.{chainAt, stepAt, switchAt, chainWords, stepWords, switchWords, caseWords}
 use Rattle.pools.specs.Pools.{whole, chainsIn, stepsIn, switchesIn, casesIn}
 use Rattle.pools.specs.Tables.{ragged, badChain, badStep, badSwitch}
-use Rattle.pools.specs.Tables.{wholeTable, goodChains, goodSteps, goodSwitches, firstBad}
-use Rattle.pools.specs.Told.{Told, fine, badTable, first}
+use Rattle.pools.specs.Tables.{wholeTable, goodChains, goodSteps, goodSwitches, firstBadTable}
+use Rattle.pools.specs.Told.{Told, fine, badTable, firstTold}
 use Rattle.pools.proofs.Entries.{not-bad-chain, good-chain, not-bad-step, good-step, not-bad-switch, good-switch}
 use Rattle.pools.proofs.First.{passes-on, refuses-here, FirstAt, Upward, none, first-at, told-upward}
 
@@ -59,7 +58,7 @@ module _ {chains steps switches cases ranges : List ℕ} (g : GoodTables chains 
 
 module _ (chains steps switches cases ranges : List ℕ) where
   abbrev told : Told
-  told = firstBad chains steps switches cases ranges
+  told = firstBadTable chains steps switches cases ranges
 
   -- is the entry at an index of each table bad?
   abbrev chainBad : ℕ → Bool
@@ -83,22 +82,22 @@ module _ (chains steps switches cases ranges : List ℕ) where
 
   -- the first ragged table tells
   pub ragged-chains : ragged chainWords chains ≡ true → badTable 1 (chainsIn chains) ≡ told
-  unfolding firstBad wholeTable first
+  unfolding firstBadTable wholeTable firstTold
   ragged-chains e = simp e
 
   pub ragged-steps : ragged chainWords chains ≡ false → ragged stepWords steps ≡ true
       → badTable 2 (stepsIn steps) ≡ told
-  unfolding firstBad wholeTable first
+  unfolding firstBadTable wholeTable firstTold
   ragged-steps c e = simp (c, e)
 
   pub ragged-switches : ragged chainWords chains ≡ false → ragged stepWords steps ≡ false
       → ragged switchWords switches ≡ true → badTable 3 (switchesIn switches) ≡ told
-  unfolding firstBad wholeTable first
+  unfolding firstBadTable wholeTable firstTold
   ragged-switches c s e = simp (c, s, e)
 
   pub ragged-cases : ragged chainWords chains ≡ false → ragged stepWords steps ≡ false
       → ragged switchWords switches ≡ false → ragged caseWords cases ≡ true → badTable 4 (casesIn cases) ≡ told
-  unfolding firstBad wholeTable first
+  unfolding firstBadTable wholeTable firstTold
   ragged-cases c s w e = simp (c, s, w, e)
 
   -- past the four tests
@@ -109,8 +108,8 @@ module _ (chains steps switches cases ranges : List ℕ) where
     pub cases-whole : ragged caseWords cases ≡ false
 
   -- where none is ragged the entries tell
-  by-entries : NoneRagged → told ≡ first (inChains ∷ inSteps ∷ inSwitches ∷ [])
-  unfolding firstBad wholeTable first
+  by-entries : NoneRagged → told ≡ firstTold (inChains ∷ inSteps ∷ inSwitches ∷ [])
+  unfolding firstBadTable wholeTable firstTold
   by-entries n = simp (n .chains-whole, n .steps-whole, n .switches-whole, n .cases-whole)
 
   -- the first table with a bad entry tells
@@ -124,11 +123,11 @@ module _ (chains steps switches cases ranges : List ℕ) where
       ∙ refuses-here inSteps _ (rw e at h))
 
   -- the last of the entries tell for themselves
-  by-switches : first (inSwitches ∷ []) ≡ inSwitches
-  unfolding first
+  by-switches : firstTold (inSwitches ∷ []) ≡ inSwitches
+  unfolding firstTold
   by-switches = go (told-upward (badTable 3) _ (switchesIn switches))
     where
-      go : {t : Told} → Upward (badTable 3) switchBad (switchesIn switches) t → first (t ∷ []) ≡ t
+      go : {t : Told} → Upward (badTable 3) switchBad (switchesIn switches) t → firstTold (t ∷ []) ≡ t
       go (none each e) = rw e
       go (first-at i at e) = rw e
 

@@ -1,12 +1,32 @@
--- Good tables as facts, for whoever builds on them: the words make whole entries, each number of an entry means
--- something, and each span that an entry names lies within its table. Document 01, "Flat pools and sizes" and kind 2.
-use mathlib.Core.List.{List}
+-- What passed as facts, for whoever builds on it: each count keeps its limit; the words of a table make whole entries,
+-- each number of an entry means something, and each span that an entry names lies within its table. Document 01, "Flat
+-- pools and sizes", and kinds 1 and 2.
+use mathlib.Core.Bool.{false}
+use mathlib.Core.List.{List, List·Memᴰ}
 use mathlib.Core.Path.{_≡_}
 use Prim.Native.Nat.{ℕ, _+_, _*_, _≤_, _<_}
 use lib.ListN.{length}
 use Rattle.pools.specs.Pools.{Chain, Step, Switch, chainAt, stepAt, switchAt}
 use Rattle.pools.specs.Pools.{chainWords, stepWords, switchWords, caseWords}
 use Rattle.pools.specs.Pools.{whole, chainsIn, stepsIn, switchesIn, casesIn}
+use Rattle.pools.specs.Sizes.{limits, maxEntries}
+use Rattle.pools.specs.declared.limits.Limit.{Limit}
+use Rattle.pools.specs.declared.limits.Sizes.{Sizes}
+
+-- ---- limits
+
+-- none of them is exceeded
+abbrev pub AllKept : List Limit → Type 0
+AllKept ls = (l : Limit) → List·Memᴰ l ls → l .1 ≡ false
+
+pub record Within (s : Sizes) : Type 0 where
+  pub kept : AllKept (limits s)
+
+-- the most targets of one instruction: those of a switch with every case, every range and its default
+abbrev pub maxTargets : ℕ
+maxTargets = maxEntries + maxEntries + 1
+
+-- ---- entries
 
 -- no word is left over, where an entry has so many
 abbrev pub Whole : ℕ → List ℕ → Type 0

@@ -45,8 +45,6 @@ pub record Case : Type 0 where
   pub target : ℕ
   pub constant : ℕ
 
--- ---- sizes
-
 -- how many words an entry has; a range is one word
 abbrev pub chainWords : ℕ
 chainWords = 7
@@ -76,8 +74,6 @@ switchesIn switches = whole switchWords switches
 
 abbrev pub casesIn : List ℕ → ℕ
 casesIn cases = whole caseWords cases
-
--- ---- entries
 
 -- the words of an entry
 module _ (words : List ℕ) (i : ℕ) where

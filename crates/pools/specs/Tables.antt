@@ -9,11 +9,7 @@ use lib.ListN.{length}
 use Rattle.pools.specs.Pools.{Chain, Step, Switch, chainAt, stepAt, switchAt, entries}
 use Rattle.pools.specs.Pools.{chainWords, stepWords, switchWords, caseWords}
 use Rattle.pools.specs.Pools.{whole, chainsIn, stepsIn, switchesIn, casesIn}
-use Rattle.pools.specs.Told.{Told, fine, badTable, first, firstFrom}
-use Rattle.pools.specs.declared.tables.Tables.{Tables}
-use Rattle.pools.specs.declared.tables.Tables.the-variants.{Good, Bad}
-
--- ---- the tests: what is bad
+use Rattle.pools.specs.Told.{Told, fine, badTable, firstTold, firstFrom}
 
 -- a table with words left over, where an entry has so many
 unfoldable pub ragged : ℕ → List ℕ → Bool
@@ -35,8 +31,6 @@ badStep s = ltb 2 (s .kind)
 unfoldable pub badSwitch : (cases ranges : ℕ) → Switch → Bool
 badSwitch cases ranges s = past cases (s .firstCase) (s .cases) || past ranges (s .firstRange) (s .ranges)
 
--- ---- their order
-
 -- a table whose words make whole entries
 unfoldable pub wholeTable : (table size : ℕ) → List ℕ → Told
 wholeTable table size words = cond (ragged size words) (badTable table (whole size words)) fine
@@ -55,14 +49,9 @@ abbrev pub goodSwitches : List ℕ → (cases ranges : ℕ) → Told
 goodSwitches switches cases ranges =
     goodEntries 3 (λ i. badSwitch cases ranges (switchAt switches i)) (switchesIn switches)
 
-unfoldable pub firstBad : (chains steps switches cases ranges : List ℕ) → Told
-firstBad chains steps switches cases ranges =
-    first (
+unfoldable pub firstBadTable : (chains steps switches cases ranges : List ℕ) → Told
+firstBadTable chains steps switches cases ranges =
+    firstTold (
     wholeTable 1 chainWords chains ∷ wholeTable 2 stepWords steps ∷ wholeTable 3 switchWords switches ∷
     wholeTable 4 caseWords cases ∷
     goodChains chains (stepsIn steps) ∷ goodSteps steps ∷ goodSwitches switches (casesIn cases) (length ranges) ∷ [])
-
--- the cases of an answer by document 01's numbers
-unfoldable pub numbered : Tables → Told
-numbered Good = fine
-numbered (Bad table entry) = badTable table entry

@@ -23,9 +23,9 @@ abbrev pub badTable : ℕ → ℕ → Told
 badTable table entry = record { kind = 2; p = table; q = entry }
 
 -- what several tests tell in their order: the first that refuses, and fine where none does
-unfoldable pub first : List Told → Told
-first [] = fine
-first (test ∷ tests) = cond (eqb (test .kind) 0) (first tests) test
+unfoldable pub firstTold : List Told → Told
+firstTold [] = fine
+firstTold (test ∷ tests) = cond (eqb (test .kind) 0) (firstTold tests) test
 
 -- the same of tests that are numbered upward, each true where something is bad, with a refusal for each number
 module _ (refusal : ℕ → Told) where

@@ -1,6 +1,7 @@
 // The limits: the most that there may be of everything that is lent.
 ghost use mathlib.Core.Path.{_≡_};
-ghost use Rattle.pools.specs.Sizes.{numbered, firstExceeded};
+ghost use Rattle.pools.specs.Sizes.{firstExceeded};
+ghost use Rattle.pools.specs.Answers.{limitsTold};
 
 // How many there are of each, tables by whole entries.
 pub struct Sizes {
@@ -29,8 +30,9 @@ pub const MAX_CODE: usize = 65536;
 // The most constants, names, tokens, op-assignments, steps, cases, ranges, of each.
 const MAX_ENTRIES: usize = 65536;
 
-// The most chains, and the most switches.
-const MAX_RECORDS: usize = 4096;
+const MAX_CHAINS: usize = 4096;
+
+const MAX_SWITCHES: usize = 4096;
 
 const MAX_CHUNKS: usize = 1024;
 
@@ -39,7 +41,7 @@ pub struct Limit(pub u64, pub bool);
 
 // Is there more of anything than its limit allows?
 pub fn check_limits(sizes: Sizes) -> Limits
-    ensures { λ r. ⌜ numbered r ≡ firstExceeded sizes ⌝ }
+    ensures { λ r. ⌜ limitsTold r ≡ firstExceeded sizes ⌝ }
 {
     let limits = [
         Limit(1, sizes.code > MAX_CODE),
@@ -50,8 +52,8 @@ pub fn check_limits(sizes: Sizes) -> Limits
         Limit(6, sizes.steps > MAX_ENTRIES),
         Limit(7, sizes.cases > MAX_ENTRIES),
         Limit(8, sizes.ranges > MAX_ENTRIES),
-        Limit(9, sizes.chains > MAX_RECORDS),
-        Limit(10, sizes.switches > MAX_RECORDS),
+        Limit(9, sizes.chains > MAX_CHAINS),
+        Limit(10, sizes.switches > MAX_SWITCHES),
         Limit(11, sizes.chunks > MAX_CHUNKS),
     ];
     let mut at = 0;

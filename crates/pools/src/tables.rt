@@ -4,8 +4,9 @@
 ghost use mathlib.Core.Path.{_≡_};
 ghost use Prim.Native.Nat.{_<_};
 ghost use Rattle.pools.specs.Pools.{chainAt, stepAt, switchAt, chainsIn, stepsIn, switchesIn};
-ghost use Rattle.pools.specs.Tables.{numbered, past, badChain, badStep, badSwitch};
-ghost use Rattle.pools.specs.Tables.{goodChains, goodSteps, goodSwitches, firstBad};
+ghost use Rattle.pools.specs.Tables.{past, badChain, badStep, badSwitch};
+ghost use Rattle.pools.specs.Answers.{tablesTold};
+ghost use Rattle.pools.specs.Tables.{goodChains, goodSteps, goodSwitches, firstBadTable};
 use super::CASE_WORDS;
 use super::CHAIN_WORDS;
 use super::STEP_WORDS;
@@ -99,7 +100,7 @@ fn switch_is_bad(switches: &[u32], entry: usize, cases: usize, ranges: usize) ->
 
 // The chains upward, where there are so many steps.
 fn check_chains(chains: &[u32], steps: usize) -> Tables
-    ensures { λ r. ⌜ numbered r ≡ goodChains (now (chains .entry)) steps ⌝ }
+    ensures { λ r. ⌜ tablesTold r ≡ goodChains (now (chains .entry)) steps ⌝ }
 {
     let mut entry = 0;
     while entry < chains.len() / CHAIN_WORDS {
@@ -113,7 +114,7 @@ fn check_chains(chains: &[u32], steps: usize) -> Tables
 
 // The steps upward.
 fn check_steps(steps: &[u32]) -> Tables
-    ensures { λ r. ⌜ numbered r ≡ goodSteps (now (steps .entry)) ⌝ }
+    ensures { λ r. ⌜ tablesTold r ≡ goodSteps (now (steps .entry)) ⌝ }
 {
     let mut entry = 0;
     while entry < steps.len() / STEP_WORDS {
@@ -127,7 +128,7 @@ fn check_steps(steps: &[u32]) -> Tables
 
 // The switches upward, where there are so many cases and ranges.
 fn check_switches(switches: &[u32], cases: usize, ranges: usize) -> Tables
-    ensures { λ r. ⌜ numbered r ≡ goodSwitches (now (switches .entry)) cases ranges ⌝ }
+    ensures { λ r. ⌜ tablesTold r ≡ goodSwitches (now (switches .entry)) cases ranges ⌝ }
 {
     let mut entry = 0;
     while entry < switches.len() / SWITCH_WORDS {
@@ -147,7 +148,7 @@ pub fn check_tables(
     cases: &[u32],
     ranges: &[u32],
 ) -> Tables
-    ensures { λ r. ⌜ numbered r ≡ firstBad (now (chains .entry)) (now (steps .entry)) (now (switches .entry))
+    ensures { λ r. ⌜ tablesTold r ≡ firstBadTable (now (chains .entry)) (now (steps .entry)) (now (switches .entry))
         (now (cases .entry)) (now (ranges .entry)) ⌝ }
 {
     if chains.len() % CHAIN_WORDS != 0 {

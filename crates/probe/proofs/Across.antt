@@ -6,7 +6,7 @@ use Prim.Native.Nat.{ℕ, _≤_, _<_}
 use native.Mathlib.Omega.{arith}
 use borrow.Author.Tests.{lt-ltb, le-ltb}
 use lib.Dec.{ltb}
-use Rattle.code.specs.Told as code
+use Rattle.code.specs.Answers as code
 use Rattle.listing.specs.Listing as listing
 use Rattle.rules.specs.Acts.{Acts}
 use Rattle.rules.specs.declared.Effect.{Effect}
@@ -15,8 +15,8 @@ use Rattle.guards.specs.Guards.{isThere}
 use Rattle.probe.specs.Same.{SameTold, SameListed}
 use Rattle.guards.proofs.Ready.{not-second, each}
 
-pub told : {s t : code.Told} → s ≡ t → SameTold (record { number = s .number; value = s .value }) t
-told e = record { number = ap (λ (t : code.Told). t .number) e; value = ap (λ (t : code.Told). t .value) e }
+pub told : {s t : code.Found} → s ≡ t → SameTold (record { number = s .number; value = s .value }) t
+told e = record { number = ap (λ (t : code.Found). t .number) e; value = ap (λ (t : code.Found). t .value) e }
 
 pub listed : {s t : listing.ListedTold} → s ≡ t
     → SameListed (record { number = s .number; at = s .at; tag = s .tag; width = s .width; next = s .next }) t

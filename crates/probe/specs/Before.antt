@@ -4,9 +4,8 @@ use mathlib.Core.Path.{_≡_}
 use Prim.Native.Nat.{ℕ}
 use lib.ListN.{length}
 use Rattle.answer.specs.declared.verdict.Verdict.{Verdict}
-use Rattle.before.specs.Before.{beforeChunks, verdictOf}
+use Rattle.before.specs.Calls.{beforeChunks, verdictOf, marksAfter}
 use Rattle.before.specs.Input.{Input}
-use Rattle.before.specs.Memory.{marksAfter}
 
 pub record SameBefore (I : Input) (heights : ℕ) (before : List ℕ) (r : Verdict) (after : List ℕ) : Type 0 where
   pub verdict : r ≡ verdictOf (beforeChunks I (length before) heights)

@@ -6,13 +6,13 @@ use mathlib.Core.Path.{_≡_}
 use Prim.Native.Nat.{ℕ, _/_}
 use lib.Dec.{leb, ltb}
 use lib.ListN.{length}
-use Rattle.code.specs.Told as code
+use Rattle.code.specs.Answers as code
 use Rattle.listing.specs.Listing as listing
 use Rattle.marks.specs.Marks.{marked, total}
 use Rattle.probe.specs.declared.ListedTold.{ListedTold}
 use Rattle.probe.specs.declared.Told.{Told}
 
-pub record SameTold (r : Told) (told : code.Told) : Type 0 where
+pub record SameTold (r : Told) (told : code.Found) : Type 0 where
   pub number : r .number ≡ told .number
   pub value : r .value ≡ told .value
 

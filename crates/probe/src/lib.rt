@@ -2,10 +2,9 @@
 // No part of the product: nothing depends on this crate. Each answer is the numbers of the definition that it cites.
 ghost use mathlib.Core.Path.{_≡_};
 ghost use lib.ListN.{length, replicate};
-ghost use Rattle.code.specs.Numbers.{numberAt};
-ghost use Rattle.code.specs.Width.{toldAt};
+ghost use Rattle.code.specs.Answers.{numberAt, toldAt};
 ghost use Rattle.listing.specs.Listing.{listedAt};
-ghost use Rattle.marks.specs.Marks.{bitAt};
+ghost use Rattle.marks.specs.Places.{bitAt};
 ghost use Rattle.probe.specs.Same.{SameTold, SameListed, SetStart, countOf};
 use code::Number16;
 use code::Number32;

@@ -1,5 +1,5 @@
 // Everything before the chunks, as its verdict in numbers. An input that passes is told as kind 0 with nothing counted.
-ghost use Rattle.before.specs.Input.{input};
+ghost use Rattle.before.specs.Parameters.{input};
 ghost use Rattle.probe.specs.Before.{SameBefore};
 use answer::Outcome;
 use answer::verdict;

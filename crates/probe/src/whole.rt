@@ -1,6 +1,6 @@
 // The whole call over flat spans, behind the C calling convention.
 ghost use lib.ListN.{length};
-ghost use Rattle.before.specs.Input.{input};
+ghost use Rattle.before.specs.Parameters.{input};
 ghost use Rattle.verify.specs.Call.{Calls};
 ghost use Rattle.judging.specs.Spans.{spansOf};
 use answer::verdict::Verdict;

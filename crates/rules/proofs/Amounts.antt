@@ -10,9 +10,8 @@ use borrow.Author.Tests.{ne-eqb}
 use lib.Dec.{T, leb, eqb, leb→le, eqb→eq}
 use lib.ListN.{getD}
 use Rattle.code.proofs.ByTag.{tagsOf, once, row-holds}
-use Rattle.code.specs.ByTag.{Row, among}
+use Rattle.code.specs.Tags.{Row, among, byte, CHAIN}
 use Rattle.code.specs.Layout.{tagAt, countAt, indexAt}
-use Rattle.code.specs.Tags.{CHAIN}
 use Rattle.code.specs.Width.{widthAt}
 use Rattle.pools.specs.Pools.{chainAt}
 use Rattle.rules.specs.Acts.{Acts}
@@ -37,13 +36,13 @@ part-small word n h = omega (arith, mul-le-mul-right n (part-three word))
 
 module _ (code chains : List ℕ) (p : ℕ) where
   -- a CHAIN's effect is its operands k
-  pub chain-acts : tagAt code p ≡ CHAIN → (k : ℕ) → k ≡ chainAt chains (indexAt code p) .operands
+  pub chain-acts : tagAt code p ≡ byte CHAIN → (k : ℕ) → k ≡ chainAt chains (indexAt code p) .operands
       → Acts code chains p (record { needs = k; pops = k; pushes = 1 })
   unfolding needs pops pushes operandsOf effect
   chain-acts e k h = record { needed = rw e (omega arith); popped = rw e (omega arith); pushed = rw (e, pushes) refl }
 
   -- any other's is made of its word and its count n
-  pub word-acts : (tagAt code p ≡ CHAIN → ⊥) → (word : ℕ) → Shape (tagAt code p) word → (n : ℕ) → n ≡ countAt code p
+  pub word-acts : (tagAt code p ≡ byte CHAIN → ⊥) → (word : ℕ) → Shape (tagAt code p) word → (n : ℕ) → n ≡ countAt code p
       → Acts code chains p (record {
         needs = word % 4 + word / 4 % 4 * n;
         pops = word / 16 % 4 + word / 64 % 4 * n;
@@ -51,8 +50,8 @@ module _ (code chains : List ℕ) (p : ℕ) where
       })
   unfolding needs pops pushes operandsOf
   word-acts e word s n h = record {
-    needed = rw (s .needs-fixed, s .needs-perN, h, ne-eqb (tagAt code p) CHAIN e) (omega arith);
-    popped = rw (s .pops-fixed, s .pops-perN, h, ne-eqb (tagAt code p) CHAIN e) (omega arith);
+    needed = rw (s .needs-fixed, s .needs-perN, h, ne-eqb (tagAt code p) (byte CHAIN) e) (omega arith);
+    popped = rw (s .pops-fixed, s .pops-perN, h, ne-eqb (tagAt code p) (byte CHAIN) e) (omega arith);
     pushed = s .pushes;
   }
 

@@ -9,8 +9,7 @@ use borrow.Author.Tests.{ne-eqb, lt-ltb, le-ltb}
 use lib.Dec.{eqb, ltb}
 use lib.ListN.{length, getD}
 use Rattle.code.proofs.Layouts.{sizes}
-use Rattle.code.specs.Layout.{Field, target, count8, count16, slot, index, layout, countFrom, countAt, tagAt}
-use Rattle.code.specs.Numbers.{little}
+use Rattle.code.specs.Layout.{Field, target, count8, count16, slot, index, layout, countFrom, countAt, tagAt, little}
 use Rattle.code.specs.Width.{widthAt}
 use Rattle.rules.specs.Shapes.{placeFrom}
 use Rattle.rules.proofs.Operands.{few-bytes, reach, count-there}

@@ -10,7 +10,7 @@ use lib.Dec.{eqb, eqb→eq}
 use lib.ListN.{length, length-append, length-map}
 use Rattle.code.specs.Layout.{among, indexAt, targetAt}
 use Rattle.code.specs.Tags.{RETURN, THROW, SWITCH, JUMP, JUMP-IF-TRUE, JUMP-IF-FALSE, SKIP-IF-NOT-UNIT, ITER-NEXT}
-use Rattle.code.specs.Tags.{PUSH-HANDLER, ITER-NEXT-INDEXED, PUSH-HANDLER-VAR}
+use Rattle.code.specs.Tags.{byte, bytes, PUSH-HANDLER, ITER-NEXT-INDEXED, PUSH-HANDLER-VAR}
 use Rattle.code.specs.Width.{widthAt}
 use Rattle.pools.specs.Pools.{switchAt}
 use Rattle.answer.specs.declared.Depths.{Depths}
@@ -24,14 +24,14 @@ use Rattle.rules.proofs.Tests.{pass-at}
 -- the list, where a SWITCH has so many arms
 unfoldable pub listed : (tag arms : ℕ) → ℕ
 listed tag arms =
-    cond (among tag (RETURN ∷ THROW ∷ [])) 0
-    (cond (eqb tag JUMP) 1
-    (cond (among tag (JUMP-IF-TRUE ∷ JUMP-IF-FALSE ∷ SKIP-IF-NOT-UNIT ∷ ITER-NEXT ∷ ITER-NEXT-INDEXED ∷ PUSH-HANDLER ∷ PUSH-HANDLER-VAR ∷ [])) 2
-    (cond (eqb tag SWITCH) arms 1)))
+    cond (among tag (bytes (RETURN ∷ THROW ∷ []))) 0
+    (cond (eqb tag (byte JUMP)) 1
+    (cond (among tag (bytes (JUMP-IF-TRUE ∷ JUMP-IF-FALSE ∷ SKIP-IF-NOT-UNIT ∷ ITER-NEXT ∷ ITER-NEXT-INDEXED ∷ PUSH-HANDLER ∷ PUSH-HANDLER-VAR ∷ []))) 2
+    (cond (eqb tag (byte SWITCH)) arms 1)))
 
 -- targets and fall-through
 summed : (tag arms : ℕ) → ℕ
-summed tag arms = cond (among tag jumping) 1 (cond (eqb tag SWITCH) arms 0) + cond (falls tag) 1 0
+summed tag arms = cond (among tag (bytes jumping)) 1 (cond (eqb tag (byte SWITCH)) arms 0) + cond (falls tag) 1 0
 
 tests : ℕ → List Bool
 unfolding summed listed among falls
@@ -39,10 +39,10 @@ tests tag = eqb (summed tag 0) (listed tag 0) ∷ []
 
 same : (tag : ℕ) → tag < 256 → (arms : ℕ) → summed tag arms ≡ listed tag arms
 unfolding tests
-same tag h arms = go (eqb tag SWITCH) refl
+same tag h arms = go (eqb tag (byte SWITCH)) refl
   where
-    go : (b : Bool) → eqb tag SWITCH ≡ b → summed tag arms ≡ listed tag arms
-    go true e = rw (eqb-true tag SWITCH e) (omega arith)
+    go : (b : Bool) → eqb tag (byte SWITCH) ≡ b → summed tag arms ≡ listed tag arms
+    go true e = rw (eqb-true tag (byte SWITCH) e) (omega arith)
     go false e =
         let zero : summed tag 0 ≡ listed tag 0 = eqb→eq (summed tag 0) (listed tag 0) (pass-at tests tt tag h 0) in
         rw e (rw e at zero)
@@ -62,11 +62,11 @@ module _ (S : Script) (p : ℕ) where
   abbrev pub arms : ℕ
   arms = switchAt (S .pools .switches) (indexAt (S .code) p) .cases + switchAt (S .pools .switches) (indexAt (S .code) p) .ranges + 1
 
-  pub target-number : length (targets S p) ≡ cond (among (tagOf S p) jumping) 1 (cond (eqb (tagOf S p) SWITCH) arms 0)
+  pub target-number : length (targets S p) ≡ cond (among (tagOf S p) (bytes jumping)) 1 (cond (eqb (tagOf S p) (byte SWITCH)) arms 0)
   unfolding targetsOf
   target-number =
       rw (← arms-length (S .pools .cases) (S .pools .ranges) (switchAt (S .pools .switches) (indexAt (S .code) p)))
-      (length-cond (among (tagOf S p) jumping) (eqb (tagOf S p) SWITCH) (targetAt (S .code) p ∷ [])
+      (length-cond (among (tagOf S p) (bytes jumping)) (eqb (tagOf S p) (byte SWITCH)) (targetAt (S .code) p ∷ [])
       (armsOf (S .pools .cases) (S .pools .ranges) (switchAt (S .pools .switches) (indexAt (S .code) p))))
 
   pub degree-listed : 0 < widthAt (S .code) p → degree S p ≡ listed (tagOf S p) arms

@@ -10,7 +10,7 @@ use lib.Dec.{eqb}
 use lib.ListN.{length, getD}
 use Rattle.code.proofs.Among.{or-true}
 use Rattle.code.specs.Layout.{among, tagAt, indexAt}
-use Rattle.code.specs.Tags.{CHAIN}
+use Rattle.code.specs.Tags.{byte, bytes, CHAIN}
 use Rattle.code.specs.Width.{widthAt}
 use Rattle.pools.specs.Pools.{chainAt, stepAt, entries}
 use Rattle.rules.specs.Asks.{qualifiable, asking, Asks}
@@ -96,12 +96,12 @@ module _ {code names chains steps : List ℕ} {at word : ℕ} (A : Asked code na
 
   -- a name decides
   module _ (one : word / 16384 ≡ 1) where
-    qualified : among (tagAt code at) qualifiable ≡ true
+    qualified : among (tagAt code at) (bytes qualifiable) ≡ true
     qualified = A .asks .by-name ∙ eq-eqb (word / 16384) 1 one
 
     name-index : at + 3 ≤ length code
     unfolding among
-    name-index = index-there code at (A .wide) (rw qualified (rw or-true (or-true (eqb (tagAt code at) CHAIN))))
+    name-index = index-there code at (A .wide) (rw qualified (rw or-true (or-true (eqb (tagAt code at) (byte CHAIN)))))
 
     pub named-there : indexAt code at < length names
     named-there = A .name-there .name qualified
@@ -113,8 +113,8 @@ module _ {code names chains steps : List ℕ} {at word : ℕ} (A : Asked code na
 
   -- a chain does
   module _ (more : word / 16384 ≡ 0 → ⊥) (not-one : word / 16384 ≡ 1 → ⊥) where
-    is-chain : tagAt code at ≡ CHAIN
-    is-chain = eqb-true (tagAt code at) CHAIN (A .asks .by-chain ∙ le-leb 2 (word / 16384) (omega arith))
+    is-chain : tagAt code at ≡ byte CHAIN
+    is-chain = eqb-true (tagAt code at) (byte CHAIN) (A .asks .by-chain ∙ le-leb 2 (word / 16384) (omega arith))
 
     chain-index : at + 3 ≤ length code
     chain-index = chain-there code at (A .wide) is-chain

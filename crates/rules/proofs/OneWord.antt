@@ -11,7 +11,7 @@ use lib.Dec.{eqb, leb, ltb, eqb→eq}
 use lib.ListN.{replicate}
 use Rattle.code.proofs.Table.{each}
 use Rattle.code.specs.Layout.{among, indexAt}
-use Rattle.code.specs.Tags.{ITER-INIT, ITER-DROP, POP-HANDLER, SWITCH, CHAIN, iterNexts, pushHandlers}
+use Rattle.code.specs.Tags.{byte, bytes, ITER-INIT, ITER-DROP, POP-HANDLER, SWITCH, CHAIN, iterNexts, pushHandlers}
 use Rattle.pools.specs.Pools.{chainAt}
 use Rattle.rules.specs.Asks.{qualifiable, asking, Asks}
 use Rattle.rules.specs.Edges.{jumping, falls, plain}
@@ -23,13 +23,13 @@ use Rattle.rules.specs.Shapes.{Flow, Shape}
 -- the flow of a tag, by the groups that it is in
 flowOf : ℕ → ℕ
 flowOf tag =
-    cond (eqb tag ITER-INIT) 1
-    (cond (eqb tag POP-HANDLER) 2
-    (cond (eqb tag ITER-DROP) 3
-    (cond (among tag iterNexts) 4
-    (cond (among tag pushHandlers) 5
-    (cond (eqb tag SWITCH) 8
-    (cond (plain tag) 0 (cond (falls tag) 6 (cond (among tag jumping) 7 9))))))))
+    cond (eqb tag (byte ITER-INIT)) 1
+    (cond (eqb tag (byte POP-HANDLER)) 2
+    (cond (eqb tag (byte ITER-DROP)) 3
+    (cond (among tag (bytes iterNexts)) 4
+    (cond (among tag (bytes pushHandlers)) 5
+    (cond (eqb tag (byte SWITCH)) 8
+    (cond (plain tag) 0 (cond (falls tag) 6 (cond (among tag (bytes jumping)) 7 9))))))))
 
 -- the same by the number itself: it is that number
 again : ℕ → ℕ
@@ -79,9 +79,9 @@ module _ (tag : ℕ) where
     with-name one = sym (or-zero-r (rights % 16384)) ∙ sym (rw (one, no-name (indexAt alone 0))) ∙ needed-alone
 
   pub rights-once : {rights other : ℕ} → Asks tag rights → Asks tag other → rights ≡ other
-  rights-once {rights} {other} a b = go (eqb tag CHAIN) refl (among tag qualifiable) refl
+  rights-once {rights} {other} a b = go (eqb tag (byte CHAIN)) refl (among tag (bytes qualifiable)) refl
     where
-      go : (c : Bool) → eqb tag CHAIN ≡ c → (n : Bool) → among tag qualifiable ≡ n → rights ≡ other
+      go : (c : Bool) → eqb tag (byte CHAIN) ≡ c → (n : Bool) → among tag (bytes qualifiable) ≡ n → rights ≡ other
       go true p n q = eqb-true rights 32768 (sym (a .chain-alone) ∙ p) ∙ sym (eqb-true other 32768 (sym (b .chain-alone) ∙ p))
       go false p true q =
           let one = eqb-true (rights / 16384) 1 (sym (a .by-name) ∙ q) in

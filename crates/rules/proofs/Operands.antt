@@ -9,7 +9,7 @@ use lib.ListN.{length, getD}
 use Rattle.code.proofs.Layouts.{tag-byte, sizes}
 use Rattle.code.proofs.Widths.{Wide, width-there}
 use Rattle.code.specs.Layout.{layout, among, tagAt}
-use Rattle.code.specs.Tags.{CHAIN, SWITCH}
+use Rattle.code.specs.Tags.{Tag, byte, bytes, CHAIN, SWITCH}
 use Rattle.code.specs.Width.{widthOf, widthAt}
 use Rattle.rules.specs.Asks.{qualifiable}
 use Rattle.rules.specs.Edges.{jumping}
@@ -21,7 +21,7 @@ abbrev pub reach : ℕ → ℕ
 reach place = cond (eqb place 0) 0 (cond (ltb place 8) (place + 1) (place - 8 + 2))
 
 -- the tags that name an entry of a table by the two bytes after the tag
-abbrev pub naming : List ℕ
+abbrev pub naming : List Tag
 naming = CHAIN ∷ SWITCH ∷ qualifiable
 
 -- the fields are few; count, target and index lie inside the width
@@ -30,8 +30,8 @@ unfolding layout among placeFrom sizes widthOf
 tests tag =
     leb (1 + sizes (layout tag)) 8
     ∷ leb (reach (placeFrom (layout tag) 1)) (widthOf tag)
-    ∷ leb (cond (among tag jumping) 5 0) (widthOf tag)
-    ∷ leb (cond (among tag naming) 3 0) (widthOf tag)
+    ∷ leb (cond (among tag (bytes jumping)) 5 0) (widthOf tag)
+    ∷ leb (cond (among tag (bytes naming)) 3 0) (widthOf tag)
     ∷ []
 
 -- what the test tells of the instruction at an offset that has its width
@@ -61,18 +61,18 @@ module _ (code : List ℕ) (at : ℕ) (wide : 0 < widthAt code at) where
   unfolding tests
   count-there = within (reach (placeFrom (layout (tagAt code at)) 1)) (passes 1)
 
-  pub target-there : among (tagAt code at) jumping ≡ true → at + 5 ≤ length code
+  pub target-there : among (tagAt code at) (bytes jumping) ≡ true → at + 5 ≤ length code
   unfolding tests
-  target-there e = rw e at (within (cond (among (tagAt code at) jumping) 5 0) (passes 2))
+  target-there e = rw e at (within (cond (among (tagAt code at) (bytes jumping)) 5 0) (passes 2))
 
-  pub index-there : among (tagAt code at) naming ≡ true → at + 3 ≤ length code
+  pub index-there : among (tagAt code at) (bytes naming) ≡ true → at + 3 ≤ length code
   unfolding tests
-  index-there e = rw e at (within (cond (among (tagAt code at) naming) 3 0) (passes 3))
+  index-there e = rw e at (within (cond (among (tagAt code at) (bytes naming)) 3 0) (passes 3))
 
-  pub chain-there : tagAt code at ≡ CHAIN → at + 3 ≤ length code
+  pub chain-there : tagAt code at ≡ byte CHAIN → at + 3 ≤ length code
   unfolding among
   chain-there e = index-there (rw (e, among) refl)
 
-  pub switch-there : tagAt code at ≡ SWITCH → at + 3 ≤ length code
+  pub switch-there : tagAt code at ≡ byte SWITCH → at + 3 ≤ length code
   unfolding among
   switch-there e = index-there (rw (e, among) refl)

@@ -6,9 +6,8 @@ use Prim.Native.Nat.{ℕ, _+_, _/_, _%_}
 use native.Mathlib.Omega.{arith}
 use lib.Dec.{T, eqb, leb, ltb, eqb→eq, ltb→lt}
 use Rattle.code.proofs.ByTag.{at-each, tagsOf, once, row-holds}
-use Rattle.code.specs.ByTag.{Row, among}
+use Rattle.code.specs.Tags.{Row, among, byte, bytes, CHAIN}
 use Rattle.code.specs.Layout.{tagAt, indexAt}
-use Rattle.code.specs.Tags.{CHAIN}
 use Rattle.pools.specs.Pools.{chainAt}
 use Rattle.rules.specs.Asks.{qualifiable, asking, Asks}
 use Rattle.rules.specs.Rights.{Need, fixed, named, chained, rightsByTag, rightsOfTag, comesTo, ofName, ofChain}
@@ -51,9 +50,9 @@ asks-need name chain chained t = refl
 tests : ℕ → ℕ → List Bool
 unfolding rightsOfTag inWord
 tests tag word =
-    same (among tag qualifiable) (eqb (word / 16384) 1)
-    ∷ same (eqb tag CHAIN) (leb 2 (word / 16384))
-    ∷ same (eqb tag CHAIN) (eqb word 32768)
+    same (among tag (bytes qualifiable)) (eqb (word / 16384) 1)
+    ∷ same (eqb tag (byte CHAIN)) (leb 2 (word / 16384))
+    ∷ same (eqb tag (byte CHAIN)) (eqb word 32768)
     ∷ eqb word (inWord (rightsOfTag tag))
     ∷ []
 

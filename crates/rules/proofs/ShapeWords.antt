@@ -8,7 +8,7 @@ use lib.Dec.{T, eqb, leb, ltb, eqb→eq, ltb→lt}
 use lib.ListN.{getD, replicate}
 use Rattle.code.proofs.Table.{each}
 use Rattle.code.specs.Layout.{layout, among}
-use Rattle.code.specs.Tags.{ITER-INIT, ITER-DROP, POP-HANDLER, SWITCH, IMPORT, iterNexts, pushHandlers}
+use Rattle.code.specs.Tags.{byte, bytes, ITER-INIT, ITER-DROP, POP-HANDLER, SWITCH, IMPORT, iterNexts, pushHandlers}
 use Rattle.code.specs.Width.{widthOf}
 use Rattle.rules.specs.Edges.{jumping, falls, plain}
 use Rattle.rules.specs.Effects.{effect}
@@ -30,13 +30,13 @@ tests tag word =
     ∷ eqb (word / 65536 % 16) (placeFrom (layout tag) 1)
     ∷ same (ltb (word / 1048576 % 16) 4) (plain tag)
     ∷ same (ltb (word / 1048576 % 16) 7) (falls tag)
-    ∷ same (among tag jumping) (leb 4 (word / 1048576 % 16) && leb (word / 1048576 % 16) 7)
-    ∷ same (eqb tag SWITCH) (eqb (word / 1048576 % 16) 8)
-    ∷ same (eqb tag ITER-INIT) (eqb (word / 1048576 % 16) 1)
-    ∷ same (eqb tag ITER-DROP) (eqb (word / 1048576 % 16) 3)
-    ∷ same (among tag iterNexts) (eqb (word / 1048576 % 16) 4)
-    ∷ same (among tag pushHandlers) (eqb (word / 1048576 % 16) 5)
-    ∷ same (eqb tag POP-HANDLER) (eqb (word / 1048576 % 16) 2)
+    ∷ same (among tag (bytes jumping)) (leb 4 (word / 1048576 % 16) && leb (word / 1048576 % 16) 7)
+    ∷ same (eqb tag (byte SWITCH)) (eqb (word / 1048576 % 16) 8)
+    ∷ same (eqb tag (byte ITER-INIT)) (eqb (word / 1048576 % 16) 1)
+    ∷ same (eqb tag (byte ITER-DROP)) (eqb (word / 1048576 % 16) 3)
+    ∷ same (among tag (bytes iterNexts)) (eqb (word / 1048576 % 16) 4)
+    ∷ same (among tag (bytes pushHandlers)) (eqb (word / 1048576 % 16) 5)
+    ∷ same (eqb tag (byte POP-HANDLER)) (eqb (word / 1048576 % 16) 2)
     ∷ eqb (iteratorsNeeded tag) (cond (eqb (word / 1048576 % 16) 3) 1 (cond (eqb (word / 1048576 % 16) 4) 1 0))
     ∷ eqb (handlersNeeded tag) (cond (eqb (word / 1048576 % 16) 2) 1 0)
     ∷ ltb (word / 1048576 % 16) 10
@@ -92,7 +92,7 @@ upTo zero = []
 upTo (suc n) = suc n ∷ upTo n
 
 abbrev pub arms : List ℕ
-arms = IMPORT ∷ upTo 71
+arms = byte IMPORT ∷ upTo 71
 
 -- what a match with these arms tells of a number that comes to none of them
 abbrev pub NoneOf : ℕ → List ℕ → Type 0

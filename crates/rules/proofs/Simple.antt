@@ -6,7 +6,7 @@ use Prim.Native.Nat.{ℕ, _+_, _*_, _/_, _%_, _<_}
 use native.Mathlib.Omega.{arith}
 use borrow.Author.Tests.{eqb-false, ltb-true}
 use Rattle.code.specs.Layout.{tagAt}
-use Rattle.code.specs.Tags.{CHAIN}
+use Rattle.code.specs.Tags.{byte, CHAIN}
 use Rattle.code.specs.Width.{widthAt}
 use Rattle.rules.specs.Acts.{Acts}
 use Rattle.rules.specs.Asks.{asking, Asks}
@@ -27,8 +27,8 @@ module _ {tag word : ℕ} (shape : Shape tag word) (is : simple word ≡ true) w
   simple-rights : Asks tag 0
   simple-rights = subst (λ (asked : ℕ). Asks tag asked) (omega (arith, small is)) (shape .rights)
 
-  no-chain : tag ≡ CHAIN → ⊥
-  no-chain = eqb-false tag CHAIN (simple-rights .by-chain)
+  no-chain : tag ≡ byte CHAIN → ⊥
+  no-chain = eqb-false tag (byte CHAIN) (simple-rights .by-chain)
 
 module _ (code chains : List ℕ) (at : ℕ) {word : ℕ} (shape : Shape (tagAt code at) word) (is : simple word ≡ true) where
   required-nothing : (names steps : List ℕ) → 0 ≡ required code names chains steps at

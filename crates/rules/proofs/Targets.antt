@@ -9,7 +9,7 @@ use borrow.Author.Tests.{eq-eqb, ne-eqb, eqb-true, le-leb, lt-leb}
 use lib.Dec.{eqb, leb}
 use lib.ListN.{length, getD}
 use Rattle.code.specs.Layout.{among, tagAt, indexAt, targetAt}
-use Rattle.code.specs.Tags.{SWITCH}
+use Rattle.code.specs.Tags.{byte, bytes, SWITCH}
 use Rattle.code.specs.Width.{widthAt}
 use Rattle.pools.specs.Pools.{switchAt, switchesIn}
 use Rattle.rules.specs.Edges.{jumping, armsOf, targetsOf}
@@ -35,8 +35,8 @@ pub record Leads (code switches : List ℕ) (at flow : ℕ) : Type 0 where
 
 module _ {code switches : List ℕ} {at flow : ℕ} (L : Leads code switches at flow) where
   module _ (eight : flow ≡ 8) where
-    is-switch : tagAt code at ≡ SWITCH
-    is-switch = eqb-true (tagAt code at) SWITCH (L .flows .switches ∙ eq-eqb flow 8 eight)
+    is-switch : tagAt code at ≡ byte SWITCH
+    is-switch = eqb-true (tagAt code at) (byte SWITCH) (L .flows .switches ∙ eq-eqb flow 8 eight)
 
     -- a switch's index is there, and so is its entry
     pub switch-index : at + 3 ≤ length code
@@ -51,7 +51,7 @@ module _ {code switches : List ℕ} {at flow : ℕ} (L : Leads code switches at 
     unfolding targetsOf
     counted =
         rw (← L .flows .jumps, ← L .flows .switches)
-        (length-cond (among (tagAt code at) jumping) (eqb (tagAt code at) SWITCH) (targetAt code at ∷ []) (armsOf cases ranges (switchAt switches (indexAt code at))))
+        (length-cond (among (tagAt code at) (bytes jumping)) (eqb (tagAt code at) (byte SWITCH)) (targetAt code at ∷ []) (armsOf cases ranges (switchAt switches (indexAt code at))))
 
     -- the number of targets by the flow
     pub plain-count : flow < 4 → 0 ≡ length (targetsOf code switches cases ranges at)
@@ -75,7 +75,7 @@ pub record Aims (code switches cases ranges : List ℕ) (at k : ℕ) : Type 0 wh
 
 module _ {code switches cases ranges : List ℕ} {at k : ℕ} (A : Aims code switches cases ranges at k) where
   -- a switch's targets are its arms
-  module _ (e : tagAt code at ≡ SWITCH) where
+  module _ (e : tagAt code at ≡ byte SWITCH) where
     arms : targetsOf code switches cases ranges at ≡ armsOf cases ranges (switchAt switches (indexAt code at))
     unfolding targetsOf among
     arms = rw e refl
@@ -95,10 +95,10 @@ module _ {code switches cases ranges : List ℕ} {at k : ℕ} (A : Aims code swi
       arm-target r t = rw (arms, ← named) t
 
   -- any other instruction that has a target has just one, the number after its tag
-  module _ (n : tagAt code at ≡ SWITCH → ⊥) where
-    jumps : among (tagAt code at) jumping ≡ true
+  module _ (n : tagAt code at ≡ byte SWITCH → ⊥) where
+    jumps : among (tagAt code at) (bytes jumping) ≡ true
     unfolding targetsOf
-    jumps = go (among (tagAt code at) jumping) (rw (ne-eqb (tagAt code at) SWITCH n) at (A .below))
+    jumps = go (among (tagAt code at) (bytes jumping)) (rw (ne-eqb (tagAt code at) (byte SWITCH) n) at (A .below))
       where
         go : (b : Bool) → k < length (cond b (targetAt code at ∷ []) []) → b ≡ true
         go true l = refl

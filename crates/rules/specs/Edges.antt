@@ -11,23 +11,23 @@ use Rattle.answer.specs.declared.Depths.{Depths}
 use Rattle.answer.specs.Depths.{Item}
 use Rattle.code.specs.Layout.{among, tagAt, indexAt, targetAt}
 use Rattle.code.specs.Tags.{RETURN, THROW, ITER-INIT, ITER-DROP, POP-HANDLER, SWITCH, JUMP, SKIP-IF-NOT-UNIT, jumpIfs}
-use Rattle.code.specs.Tags.{iterNexts, pushHandlers}
+use Rattle.code.specs.Tags.{Tag, byte, bytes, iterNexts, pushHandlers}
 use Rattle.code.specs.Width.{widthAt}
 use Rattle.pools.specs.Pools.{Switch, Case, switchAt, casesOf, rangesOf}
 use Rattle.rules.specs.Effects.{pops, pushes}
 use Rattle.rules.specs.Script.{Script, tagOf}
 
 -- the tags that name one target
-abbrev pub jumping : List ℕ
+abbrev pub jumping : List Tag
 jumping = JUMP ∷ SKIP-IF-NOT-UNIT ∷ jumpIfs ++ iterNexts ++ pushHandlers
 
 -- control goes on to the next instruction after these tags
 unfoldable pub falls : ℕ → Bool
-falls tag = not (among tag (RETURN ∷ THROW ∷ JUMP ∷ SWITCH ∷ []))
+falls tag = not (among tag (bytes (RETURN ∷ THROW ∷ JUMP ∷ SWITCH ∷ [])))
 
 -- and does nothing else after these
 unfoldable pub plain : ℕ → Bool
-plain tag = not (among tag (RETURN ∷ THROW ∷ SWITCH ∷ jumping))
+plain tag = not (among tag (bytes (RETURN ∷ THROW ∷ SWITCH ∷ jumping)))
 
 -- a switch's targets: cases, ranges, default
 unfoldable pub armsOf : (cases ranges : List ℕ) → Switch → List ℕ
@@ -36,29 +36,29 @@ armsOf cases ranges s = map (λ (c : Case). c .target) (casesOf cases s) ++ rang
 -- the targets that the instruction at a place names
 unfoldable pub targetsOf : (code switches cases ranges : List ℕ) → ℕ → List ℕ
 targetsOf code switches cases ranges p =
-    cond (among (tagAt code p) jumping) (targetAt code p ∷ [])
-    (cond (eqb (tagAt code p) SWITCH) (armsOf cases ranges (switchAt switches (indexAt code p))) [])
+    cond (among (tagAt code p) (bytes jumping)) (targetAt code p ∷ [])
+    (cond (eqb (tagAt code p) (byte SWITCH)) (armsOf cases ranges (switchAt switches (indexAt code p))) [])
 
 -- the depths just after an instruction of a tag that pops and pushes so many
 unfoldable pub afterOf : (tag pops pushes : ℕ) → Depths → Depths
 afterOf tag pops pushes d = record {
   operands = d .operands - pops + pushes;
   iterators =
-      cond (eqb tag ITER-INIT) (d .iterators + 1)
-      (cond (eqb tag ITER-DROP) (d .iterators - 1)
+      cond (eqb tag (byte ITER-INIT)) (d .iterators + 1)
+      (cond (eqb tag (byte ITER-DROP)) (d .iterators - 1)
       (d .iterators));
   handlers =
-      cond (among tag pushHandlers) (d .handlers + 1)
-      (cond (eqb tag POP-HANDLER) (d .handlers - 1)
+      cond (among tag (bytes pushHandlers)) (d .handlers + 1)
+      (cond (eqb tag (byte POP-HANDLER)) (d .handlers - 1)
       (d .handlers));
 }
 
 -- the depths at each of its targets, from those before it and those after it
 unfoldable pub jumpedOf : (tag : ℕ) (before after : Depths) → Depths
 jumpedOf tag before after =
-    cond (among tag iterNexts)
+    cond (among tag (bytes iterNexts))
     (record { operands = before .operands; iterators = before .iterators - 1; handlers = before .handlers })
-    (cond (among tag pushHandlers)
+    (cond (among tag (bytes pushHandlers))
     (record { operands = before .operands; iterators = before .iterators; handlers = before .handlers + 1 })
     after)
 

@@ -3,12 +3,12 @@ use mathlib.Core.Bool.{cond}
 use mathlib.Core.List.{List, [], _∷_, _++_}
 use Prim.Native.Nat.{ℕ, _+_, _*_}
 use lib.Dec.{eqb}
-use Rattle.code.specs.ByTag.{Row, _for_, among, lookUp}
+use Rattle.code.specs.Tags.{Row, _for_, among, lookUp}
 use Rattle.code.specs.Layout.{tagAt, countAt, indexAt}
 use Rattle.code.specs.Tags.{UNIT, FALSE, TRUE, POP, RETURN, THROW, ITER-INIT, INTERPOLATE-START, INTERPOLATE-APPEND}
 use Rattle.code.specs.Tags.{INTERPOLATE-END, IS-SHARED, MAKE-FN-PTR, ROTATE, CURRY, MAKE-CLOSURE, CHAIN, MAKE-ARRAY}
 use Rattle.code.specs.Tags.{MAKE-MAP, SWITCH, IMPORT, CALL, SKIP-IF-NOT-UNIT, CALL-OP, loads, stores, declares, assigns}
-use Rattle.code.specs.Tags.{jumpIfs, checks, callRefs, callFnPtrs, iterNexts}
+use Rattle.code.specs.Tags.{byte, jumpIfs, checks, callRefs, callFnPtrs, iterNexts}
 use Rattle.pools.specs.Pools.{chainAt}
 
 -- an amount: so many, so many for each of the count n, and so many for each of the chain's operands k
@@ -64,7 +64,7 @@ effect tag = lookUp effects (just 0 / just 0 / 0) tag
 -- of the instruction at a place: the operands of the chain that it names, and the three numbers of its effect
 module _ (code chains : List ℕ) (p : ℕ) where
   unfoldable pub operandsOf : ℕ
-  operandsOf = cond (eqb (tagAt code p) CHAIN) (chainAt chains (indexAt code p) .operands) 0
+  operandsOf = cond (eqb (tagAt code p) (byte CHAIN)) (chainAt chains (indexAt code p) .operands) 0
 
   abbrev pub amount : Amount → ℕ
   amount a = a .fixed + a .perN * countAt code p + a .perK * operandsOf

@@ -8,17 +8,17 @@ use Prim.Native.Nat.{ℕ, _≤_}
 use lib.Dec.{eqb}
 use Rattle.answer.specs.declared.Depths.{Depths}
 use Rattle.code.specs.Layout.{among}
-use Rattle.code.specs.Tags.{ITER-DROP, POP-HANDLER, iterNexts}
+use Rattle.code.specs.Tags.{byte, bytes, ITER-DROP, POP-HANDLER, iterNexts}
 use Rattle.rules.specs.Effects.{needs}
 use Rattle.rules.specs.Rights.{required, lacking}
 use Rattle.rules.specs.Script.{Script, tagOf}
 
 -- how many iterators, and how many handlers, an instruction needs
 unfoldable pub iteratorsNeeded : ℕ → ℕ
-iteratorsNeeded tag = cond (among tag (ITER-DROP ∷ iterNexts)) 1 0
+iteratorsNeeded tag = cond (among tag (bytes (ITER-DROP ∷ iterNexts))) 1 0
 
 unfoldable pub handlersNeeded : ℕ → ℕ
-handlersNeeded tag = cond (eqb tag POP-HANDLER) 1 0
+handlersNeeded tag = cond (eqb tag (byte POP-HANDLER)) 1 0
 
 -- of the instruction at a place: the rights that it lacks, the operands that it needs, and that it has all it needs
 module _ (S : Script) (p : ℕ) where

@@ -6,12 +6,11 @@ use Prim.Native.Nat.{ℕ, _-_}
 use lib.Bits.{bitAnd, bitOr}
 use lib.Dec.{eqb}
 use lib.ListN.{getD}
-use Rattle.code.specs.ByTag.{Row, _for_, among, lookUp}
+use Rattle.code.specs.Tags.{Row, _for_, among, lookUp, IS-SHARED, MAKE-FN-PTR, LOAD-THIS, LOAD-THIS-SHARED}
+use Rattle.code.specs.Tags.{REQUIRE-THIS, ASSIGN-THIS, CURRY, SHARE, SHARE-NAMED, ASSIGN-THIS-OP, MAKE-CLOSURE}
+use Rattle.code.specs.Tags.{LOAD-NAMED, CHAIN, MAKE-ARRAY, MAKE-MAP, CUSTOM-SYNTAX, IMPORT, CALL, CALL-THIS-REF}
+use Rattle.code.specs.Tags.{EXPORT-LOCAL, EXPORT-NAMED, CALL-OP, CALL-LOCAL-REF, CALL-NAMED-REF, callFnPtrs}
 use Rattle.code.specs.Layout.{tagAt, indexAt}
-use Rattle.code.specs.Tags.{IS-SHARED, MAKE-FN-PTR, LOAD-THIS, LOAD-THIS-SHARED, REQUIRE-THIS, ASSIGN-THIS, CURRY}
-use Rattle.code.specs.Tags.{SHARE, SHARE-NAMED, ASSIGN-THIS-OP, MAKE-CLOSURE, LOAD-NAMED, CHAIN, MAKE-ARRAY, MAKE-MAP}
-use Rattle.code.specs.Tags.{CUSTOM-SYNTAX, IMPORT, CALL, CALL-THIS-REF, EXPORT-LOCAL, EXPORT-NAMED, CALL-OP}
-use Rattle.code.specs.Tags.{CALL-LOCAL-REF, CALL-NAMED-REF, callFnPtrs}
 use Rattle.pools.specs.Pools.{Chain, Step, chainAt, stepsOf}
 use Rattle.rules.specs.Bits.{Right, bit}
 

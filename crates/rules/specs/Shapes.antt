@@ -7,7 +7,7 @@ use mathlib.Core.Path.{_≡_}
 use Prim.Native.Nat.{ℕ, _+_, _/_, _%_, _^_, _<_}
 use lib.Dec.{eqb, leb, ltb}
 use Rattle.code.specs.Layout.{Field, target, count8, count16, slot, index, layout, among}
-use Rattle.code.specs.Tags.{ITER-INIT, ITER-DROP, POP-HANDLER, SWITCH, iterNexts, pushHandlers}
+use Rattle.code.specs.Tags.{byte, bytes, ITER-INIT, ITER-DROP, POP-HANDLER, SWITCH, iterNexts, pushHandlers}
 use Rattle.code.specs.Width.{widthOf}
 use Rattle.rules.specs.Asks.{Asks}
 use Rattle.rules.specs.Edges.{jumping, falls, plain}
@@ -29,13 +29,13 @@ placeFrom (index pool ∷ fields) at = placeFrom fields (at + 2)
 pub record Flow (tag flow : ℕ) : Type 0 where
   pub is-plain : ltb flow 4 ≡ plain tag
   pub falls-on : ltb flow 7 ≡ falls tag
-  pub jumps : among tag jumping ≡ (leb 4 flow && leb flow 7)
-  pub switches : eqb tag SWITCH ≡ eqb flow 8
-  pub iterates : eqb tag ITER-INIT ≡ eqb flow 1
-  pub drops : eqb tag ITER-DROP ≡ eqb flow 3
-  pub advances : among tag iterNexts ≡ eqb flow 4
-  pub arms : among tag pushHandlers ≡ eqb flow 5
-  pub disarms : eqb tag POP-HANDLER ≡ eqb flow 2
+  pub jumps : among tag (bytes jumping) ≡ (leb 4 flow && leb flow 7)
+  pub switches : eqb tag (byte SWITCH) ≡ eqb flow 8
+  pub iterates : eqb tag (byte ITER-INIT) ≡ eqb flow 1
+  pub drops : eqb tag (byte ITER-DROP) ≡ eqb flow 3
+  pub advances : among tag (bytes iterNexts) ≡ eqb flow 4
+  pub arms : among tag (bytes pushHandlers) ≡ eqb flow 5
+  pub disarms : eqb tag (byte POP-HANDLER) ≡ eqb flow 2
   pub iterators : iteratorsNeeded tag ≡ cond (eqb flow 3) 1 (cond (eqb flow 4) 1 0)
   pub handlers : handlersNeeded tag ≡ cond (eqb flow 2) 1 0
   pub low : flow < 10

@@ -8,7 +8,7 @@ use Prim.Native.Nat.{ℕ, _+_, _^_, _≤_, _<_}
 use lib.ListN.{length}
 use Rattle.answer.specs.declared.Depths.{Depths}
 use Rattle.code.specs.Layout.{among, tagAt, indexAt}
-use Rattle.code.specs.Tags.{CHAIN, SWITCH}
+use Rattle.code.specs.Tags.{byte, bytes, CHAIN, SWITCH}
 use Rattle.pools.specs.Good.{StepsWithin, CasesWithin, RangesWithin}
 use Rattle.pools.specs.Pools.{chainAt, switchAt, chainsIn, stepsIn, switchesIn, casesIn}
 use Rattle.rules.specs.Asks.{qualifiable}
@@ -28,19 +28,19 @@ pub record SwitchWhole (switches cases ranges : List ℕ) (i : ℕ) : Type 0 whe
 
 -- of the instruction at a place: the name, the chain or the switch that it names
 pub record NameThere (code names : List ℕ) (p : ℕ) : Type 0 where
-  pub name : among (tagAt code p) qualifiable ≡ true → indexAt code p < length names
+  pub name : among (tagAt code p) (bytes qualifiable) ≡ true → indexAt code p < length names
 
 pub record ChainEntry (code chains : List ℕ) (p : ℕ) : Type 0 where
-  pub entry : tagAt code p ≡ CHAIN → indexAt code p < chainsIn chains
+  pub entry : tagAt code p ≡ byte CHAIN → indexAt code p < chainsIn chains
 
 pub record ChainThere (code chains steps : List ℕ) (p : ℕ) : Type 0 where
-  pub chain : tagAt code p ≡ CHAIN → ChainWhole chains steps (indexAt code p)
+  pub chain : tagAt code p ≡ byte CHAIN → ChainWhole chains steps (indexAt code p)
 
 pub record SwitchEntry (code switches : List ℕ) (p : ℕ) : Type 0 where
-  pub entry : tagAt code p ≡ SWITCH → indexAt code p < switchesIn switches
+  pub entry : tagAt code p ≡ byte SWITCH → indexAt code p < switchesIn switches
 
 pub record SwitchThere (code switches cases ranges : List ℕ) (p : ℕ) : Type 0 where
-  pub switch : tagAt code p ≡ SWITCH → SwitchWhole switches cases ranges (indexAt code p)
+  pub switch : tagAt code p ≡ byte SWITCH → SwitchWhole switches cases ranges (indexAt code p)
 
 -- a tag finds the iterators and handlers that it needs, and one more of each fits a word of 32 bits
 pub record Held (tag : ℕ) (d : Depths) : Type 0 where

@@ -6,9 +6,9 @@ use mathlib.Core.Path.{_≡_, refl}
 use Prim.Native.Nat.{ℕ, _≤_, _<_}
 use borrow.Author.Tests.{lt-ltb, le-ltb}
 use lib.Dec.{ltb, leb}
-use Rattle.listing.specs.Listing.{starts}
+use Rattle.listing.specs.Starts.{starts}
 use Rattle.listing.proofs.Marked.{told-by-marks}
-use Rattle.marks.specs.Marks.{Holds, bitAt, isOne}
+use Rattle.marks.specs.Places.{Holds, bitAt, isOne}
 use Rattle.answer.specs.declared.Answer.the-variants.{JumpOutOfRange, JumpIntoAnInstruction}
 use Rattle.demand.specs.Chunk.{judge}
 use Rattle.rules.specs.Script.{Script}

@@ -8,8 +8,8 @@ use native.Mathlib.Numerals.{add-one}
 use native.Mathlib.Omega.{arith}
 use lib.ListN.{length, getD, drop}
 use lib.Seq.{drop-cons, drop-length}
-use Rattle.listing.specs.Listing.{starts}
-use Rattle.marks.specs.Marks.{Holds}
+use Rattle.listing.specs.Starts.{starts}
+use Rattle.marks.specs.Places.{Holds}
 use Rattle.answer.specs.declared.Answer.{Answer}
 use Rattle.answer.specs.declared.Depths.{Depths}
 use Rattle.answer.specs.Depths.{Item}

@@ -13,7 +13,7 @@ use Rattle.answer.specs.declared.Depths.{Depths}
 use Rattle.demand.specs.Chunk.{needsTest, rule}
 use Rattle.demand.specs.Span.{Span}
 use Rattle.machine.specs.Walk as machine
-use Rattle.marks.specs.Marks.{bitAt, isOne}
+use Rattle.marks.specs.Places.{bitAt, isOne}
 use Rattle.rules.specs.declared.Effect.{Effect}
 use Rattle.rules.specs.Edges.{falls, plain, afterOf, jumpedOf, after, jumped, next}
 use Rattle.rules.specs.Script.{Script, tagOf}

@@ -11,11 +11,12 @@ use borrow.Author.Tests.{ltb-true, ltb-false}
 use lib.Dec.{ltb}
 use lib.ListN.{length, getD, set, drop, length-set, drop-of-length-le}
 use lib.Seq.{getD-set-same, getD-set-other}
-use Rattle.before.specs.Before.{first, beforeChunks}
+use Rattle.before.specs.Before.{first}
+use Rattle.before.specs.Calls.{beforeChunks}
 use Rattle.before.specs.Input.{Input}
-use Rattle.before.specs.Memory.{marksFrom}
+use Rattle.before.specs.Calls.{marksFrom}
 use Rattle.before.proofs.Established.{Established, established, room, marks-count}
-use Rattle.listing.specs.Listing.{starts}
+use Rattle.listing.specs.Starts.{starts}
 use Rattle.marks.specs.Marks.{total}
 use Rattle.answer.specs.Answer.{noChunk, numbered}
 use Rattle.demand.specs.Chunk.{passes, fails, judgeChunk}

@@ -8,11 +8,12 @@ use native.Mathlib.Decide.{decLe}
 use native.Mathlib.Omega.{arith}
 use borrow.Author.Tests.{le-leb, lt-leb, ltb-true, ltb-false}
 use lib.ListN.{length, set, replicate, length-replicate}
-use Rattle.before.specs.Before.{Test, beforeChunks}
+use Rattle.before.specs.Before.{Test}
+use Rattle.before.specs.Calls.{beforeChunks}
 use Rattle.before.specs.Input.{Input}
-use Rattle.before.specs.Memory.{marksAfter, ForChunks}
+use Rattle.before.specs.Calls.{marksAfter, ForChunks}
 use Rattle.before.proofs.Established.{established, marks-count, room}
-use Rattle.listing.specs.Listing.{starts}
+use Rattle.listing.specs.Starts.{starts}
 use Rattle.marks.specs.Marks.{total}
 use Rattle.opening.specs.Ready.{Ready, Marked}
 use Rattle.pools.specs.Sizes.{maxChunks}

@@ -6,7 +6,8 @@ use mathlib.Core.Option.{Option, none, some}
 use mathlib.Core.Path.{_≡_, refl, sym, subst, _∙_}
 use Prim.Native.Nat.{ℕ, _+_, _*_, _<_}
 use native.Mathlib.Nat.{le-antisymm}
-use borrow.Author.Tests.{ltb-true, ltb-false, eq-eqb}
+use native.Mathlib.Omega.{arith}
+use borrow.Author.Tests.{ltb-true, ltb-false, eq-eqb, eqb-true}
 use lib.Dec.{ltb, eqb}
 use lib.ListN.{length}
 use Rattle.before.specs.Input.{Input}
@@ -14,9 +15,9 @@ use Rattle.before.proofs.Established.{Established}
 use Rattle.verify.proofs.Walkable.{before-walk}
 use Rattle.code.specs.Layout.{among}
 use Rattle.code.specs.Width.{widthOf}
-use Rattle.code.proofs.Among.{member-among}
-use Rattle.listing.specs.Listing.{Start, starts}
-use Rattle.listing.proofs.Starts.{start-listed}
+use Rattle.code.proofs.Among.{among-member, member-among}
+use Rattle.listing.specs.Starts.{Start, starts}
+use Rattle.listing.proofs.Starts.{listed-start, start-listed}
 use Rattle.demand.specs.Span.{Span, InCode, T, E}
 use Rattle.opening.proofs.Tests.{span-exactly, room-exactly}
 use Rattle.answer.specs.Answer.{numbered, unless}
@@ -60,9 +61,9 @@ module _ (S : Script) (span : Span) (records work : ℕ) where
 
       back : Opens S span records work → unless some spanned roomy ≡ none
       back o =
-          let room = record { records-fit = o .records-room; work-fits = o .work-room } in
           rw (span-exactly (S .code) (span .entry) (span .end) .1 (o .in-code))
-          (room-exactly (T S span) (E S span) records work .1 room)
+          (room-exactly (T S span) (E S span) records work .1
+          (record { records-fit = o .records-room; work-fits = o .work-room }))
 
   -- where one of them refuses, that test is the first to fail
   span-shut : {a : Answer} → spanned ≡ some a → Shut S span records work a
@@ -71,6 +72,9 @@ module _ (S : Script) (span : Span) (records work : ℕ) where
       go (ltb (span .end) (span .entry)) refl (ltb (length (S .code)) (span .end)) refl
       (among (span .entry) (starts (S .code))) refl (eqb (span .entry) (length (S .code))) refl
     where
+      listed : Start widthOf (S .code) (span .entry) → among (span .entry) (starts (S .code)) ≡ true
+      listed s = member-among (span .entry) (starts (S .code)) (start-listed widthOf (S .code) (span .entry) s)
+
       go : (x : Bool) → ltb (span .end) (span .entry) ≡ x → (y : Bool) → ltb (length (S .code)) (span .end) ≡ y
           → (m : Bool) → among (span .entry) (starts (S .code)) ≡ m
           → (l : Bool) → eqb (span .entry) (length (S .code)) ≡ l
@@ -87,13 +91,11 @@ module _ (S : Script) (span : Span) (records work : ℕ) where
       go false qx false qy false qm true ql e = absurd (zero≢one (cc))
       go false qx false qy false qm false ql e =
           let same : Misaligned (span .entry) ≡ a = cc in
-          let listed = λ (s : Start widthOf (S .code) (span .entry)).
-          member-among (span .entry) (starts (S .code)) (start-listed widthOf (S .code) (span .entry) s) in
-          let last = λ (q : span .entry ≡ length (S .code)). eq-eqb (span .entry) (length (S .code)) q in
           let in-order = ltb-false (span .end) (span .entry) qx in
           let in-code = ltb-false (length (S .code)) (span .end) qy in
           subst (Shut S span records work) same
-          (misaligned in-order in-code (λ s. zero≢one (cc (listed s, qm))) (λ q. zero≢one (cc (last q, ql))))
+          (misaligned in-order in-code (λ s. zero≢one (cc (listed s, qm)))
+          (λ q. zero≢one (cc (eq-eqb (span .entry) (length (S .code)) q, ql))))
 
   room-shut : InCode (S .code) (span .entry) (span .end) → {a : Answer} → roomy ≡ some a → Shut S span records work a
   unfolding roomTest
@@ -118,6 +120,22 @@ module _ (S : Script) (span : Span) (records work : ℕ) where
       go : (t : Option Answer) → spanned ≡ t → unless some t roomy ≡ some a → Shut S span records work a
       go (some b) q e = span-shut (q ∙ e)
       go none q e = room-shut (span-exactly (S .code) (span .entry) (span .end) .0 q) e
+
+  -- and it does not open
+  pub shut-not-open : {a : Answer} → Shut S span records work a → ¬ Opens S span records work
+  shut-not-open (out-of-range (inl h)) o = omega (arith, o .in-code .in-order)
+  shut-not-open (out-of-range (inr h)) o = omega (arith, o .in-code .in-code)
+  shut-not-open (misaligned in-order in-code no-start not-last) o =
+      go (among (span .entry) (starts (S .code))) refl (eqb (span .entry) (length (S .code))) refl (o .in-code .aligned)
+    where
+      go : (m : Bool) → among (span .entry) (starts (S .code)) ≡ m → (l : Bool) → eqb (span .entry) (length (S .code)) ≡ l
+          → m || l ≡ true → ⊥
+      go true qm l ql e =
+          no-start (listed-start widthOf (S .code) (span .entry) (among-member (span .entry) (starts (S .code)) qm))
+      go false qm true ql e = not-last (eqb-true (span .entry) (length (S .code)) ql)
+      go false qm false ql e = zero≢one (cc)
+  shut-not-open (few-records i h) o = omega (arith, o .records-room)
+  shut-not-open (little-work i r h) o = omega (arith, o .work-room)
 
   -- it opens, or one of its tests fails it
   data Opening : Type 0 where

@@ -13,6 +13,7 @@ use lib.ListN.{length}
 use Rattle.before.specs.Before.{Test, beforeStores, afterStores}
 use Rattle.before.specs.Input.{Input}
 use Rattle.answer.specs.Answer.{noChunk, numbered}
+use Rattle.pools.proofs.LimitLaws.{chunks-kept}
 use Rattle.demand.specs.Chunk.{passes, fails}
 use Rattle.demand.specs.Chunk as chunk
 use Rattle.answer.specs.declared.Answer.{Answer}
@@ -37,20 +38,14 @@ module _ (I : Input) (spans : List Span) (before : Memory) where
   abbrev work : ℕ
   work = length (before .work)
 
-  -- what the definition comes to
-  abbrev verdict : Verdict
-  verdict = result I spans before .verdict
-
-  abbrev heights : List ℕ
-  heights = result I spans before .memory .heights
-
   -- ---- how far a call comes
 
   -- all tests before the chunks pass, or the verdict is a refusal that names no chunk, and heights stay as they were
   data Comes : Type 0 where
     to-chunks : ComesToChunks I before → Comes
-    no-further : ¬ ComesToChunks I before → 0 < verdict .kind → verdict .chunk ≡ noChunk
-        → heights ≡ before .heights → Comes
+    no-further : ¬ ComesToChunks I before → 0 < result I spans before .verdict .kind
+        → result I spans before .verdict .chunk ≡ noChunk
+        → result I spans before .memory .heights ≡ before .heights → Comes
 
   comes : Comes
   unfolding afterEarlyTests afterLateTests
@@ -66,6 +61,13 @@ module _ (I : Input) (spans : List Span) (before : Memory) where
       go (some a) p y q =
           let k = early-kind _ _ _ _ _ _ _ _ p in
           no-further (λ b. zero≢one (cc (b .early, p))) (rw p (k .0)) (rw p (k .2)) (rw p refl)
+
+  -- what the definition comes to
+  abbrev verdict : Verdict
+  verdict = result I spans before .verdict
+
+  abbrev heights : List ℕ
+  heights = result I spans before .memory .heights
 
   -- an acceptance is of a call that comes to its chunks
   begins : verdict .kind ≡ 0 → ComesToChunks I before
@@ -165,7 +167,7 @@ module _ (I : Input) (spans : List Span) (before : Memory) where
               q,
               ap (λ (v : Verdict). v .chunk) (refuses I spans before b i l p e),
               fails-refuses I (known I spans before b) (chunkAt spans i) records work e i .1,
-              known I spans before b .kept .chunks,
+              chunks-kept (known I spans before b .kept),
             )
 
     -- Which of the two, its kind tells. By 3, 7 and 8 it does not open, and this test of its own is the first to fail.
@@ -240,7 +242,7 @@ module _ (I : Input) (spans : List Span) (before : Memory) where
     pub heights-filled : I .chunks ≡ length spans → ComesToChunks I before → Fills I spans before r (after .heights)
     heights-filled same b = rw (c .verdict, c .memory) (go (ways (I .script) records work spans (length spans)))
       where
-        go : Ways (I .script) records work spans (length spans) → Fills I spans before verdict (heights)
+        go : Ways (I .script) records work spans (length spans) → Fills I spans before verdict heights
         go (all-pass p) = record {
           accepting = λ z. fills-all I spans before b p same;
           refusing = λ n. absurd (n (accepts-kind I spans before b p));

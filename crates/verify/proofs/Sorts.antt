@@ -9,7 +9,7 @@ use Prim.Native.Nat.{ℕ, _≤_, _<_}
 use native.Mathlib.Omega.{arith}
 use lib.Dec.{ltb, leb, eqb}
 use lib.ListN.{length}
-use Rattle.before.specs.Before.{Test, first, limitsTest, tablesTest, roomTest, rightsTest, constantsTest, functionTest}
+use Rattle.before.specs.Before.{Test, first, limitsTest, tablesTest, lentTest, rightsTest, constantsTest, functionTest}
 use Rattle.before.specs.Before.{widthTest, indicesTest, codeTest, earlyTests, lateTests}
 use Rattle.before.proofs.Pass.{code-on, code-stop}
 use Rattle.code.specs.Width.{widthOf}
@@ -19,7 +19,7 @@ use Rattle.listing.proofs.Starts.{all-within}
 use Rattle.listing.proofs.WalkLaws.{from-end}
 use Rattle.pools.specs.declared.limits.Sizes.{Sizes}
 use Rattle.pools.specs.Sizes.{firstExceeded}
-use Rattle.pools.specs.Tables.{firstBad}
+use Rattle.pools.specs.Tables.{firstBadTable}
 use Rattle.demand.specs.Writing.{Real, lacks-rights, leaves, splits, disagrees, underflows, runs-off, no-iterator}
 use Rattle.demand.specs.Writing.{no-handler, Exceeds}
 use Rattle.rules.specs.Rights.{lacking}
@@ -88,11 +88,11 @@ module _ (sizes : Sizes) (chains steps switches cases ranges : List ℕ) (marks 
   tables : Gives Early (tablesTest chains steps switches cases ranges)
   unfolding tablesTest
   tables =
-      either Early (eqb (firstBad chains steps switches cases ranges .kind) 0)
-      (table-kind (firstBad chains steps switches cases ranges .p) (firstBad chains steps switches cases ranges .q))
+      either Early (eqb (firstBadTable chains steps switches cases ranges .kind) 0)
+      (table-kind (firstBadTable chains steps switches cases ranges .p) (firstBadTable chains steps switches cases ranges .q))
 
-  room : (needed lent buffer : ℕ) → Gives Early (roomTest needed lent buffer)
-  unfolding roomTest
+  room : (needed lent buffer : ℕ) → Gives Early (lentTest needed lent buffer)
+  unfolding lentTest
   room needed lent buffer = other Early (ltb lent needed) (room-kind needed buffer) (none-gives Early)
 
   pub early-kind : {a : Answer} → earlyTests sizes chains steps switches cases ranges marks heights ≡ some a → Early a
@@ -132,7 +132,7 @@ function-kind functions rights = unless Late (eqb functions 0) _ (rights-kind 1 
 module _ (sizes : counted.Sizes) (records : reference.Tables) (code : List ℕ) where
   indices-kind : (at : ℕ) → Gives Late (indicesTest sizes records code at)
   unfolding indicesTest
-  indices-kind at = let found = reference.firstBad (reference.sizeOf sizes) (reference.refs records code at) in
+  indices-kind at = let found = reference.firstBadRef (reference.sizeOf sizes) (reference.refs records code at) in
       either Late (eqb (found .kind) 0) (index-kind at (found .p) (found .q))
 
   width-kind : (at : ℕ) → Gives Late (widthTest code at)

@@ -6,13 +6,13 @@ use mathlib.Core.Path.{_≡_, refl, sym, ap, _∙_}
 use Prim.Native.Nat.{ℕ, _+_, _^_, _≤_, _<_}
 use native.Mathlib.Omega.{arith}
 use lib.ListN.{length, set, replicate, length-replicate}
-use Rattle.before.specs.Before.{Test, first, beforeStores, afterStores, beforeChunks}
+use Rattle.before.specs.Before.{Test, first, beforeStores, afterStores, marksOf}
+use Rattle.before.specs.Calls.{beforeChunks, marksFrom, ForChunks}
 use Rattle.before.specs.Input.{Input}
-use Rattle.before.specs.Memory.{marksOf, marksFrom, ForChunks}
 use Rattle.before.proofs.Established as known
 use Rattle.code.specs.Width.{widthOf}
 use Rattle.code.proofs.Widths.{width-there}
-use Rattle.listing.specs.Listing.{starts}
+use Rattle.listing.specs.Starts.{starts}
 use Rattle.listing.proofs.Starts.{listed-start, rising, start-wide}
 use Rattle.marks.specs.Marks.{total}
 use Rattle.marks.proofs.Counts.{rising-length}

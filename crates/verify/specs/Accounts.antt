@@ -9,7 +9,7 @@ use lib.ListN.{length, getD}
 use Rattle.answer.specs.declared.verdict.Verdict.{Verdict}
 use Rattle.demand.specs.Span.{Span, chunkAt}
 use Rattle.demand.specs.Writing.{Writing, Measures}
-use Rattle.listing.specs.Listing.{starts}
+use Rattle.listing.specs.Starts.{starts}
 use Rattle.rules.specs.Script.{Script}
 
 -- the sum of f i over the numbers i below n

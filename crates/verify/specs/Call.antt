@@ -10,9 +10,8 @@ use lib.ListN.{length, replicate}
 use Rattle.answer.specs.Answer.{noChunk, numbered}
 use Rattle.answer.specs.declared.Answer.{Answer}
 use Rattle.answer.specs.declared.verdict.Verdict.{Verdict}
-use Rattle.before.specs.Before.{Test, beforeStores, afterStores}
+use Rattle.before.specs.Before.{Test, beforeStores, afterStores, marksOf}
 use Rattle.before.specs.Input.{Input}
-use Rattle.before.specs.Memory.{marksOf}
 use Rattle.demand.specs.Span.{Span}
 use Rattle.judging.specs.declared.Judgement.{Judgement}
 use Rattle.judging.specs.Judging.{JudgedAll, judgeAll}

@@ -17,7 +17,7 @@ use Rattle.before.specs.Input.{Input}
 use Rattle.code.specs.Width.{widthOf}
 use Rattle.demand.specs.Span.{Span, chunkAt, InCode, T, E}
 use Rattle.demand.specs.Writing.{Writing, Real, Exceeds}
-use Rattle.listing.specs.Listing.{Start}
+use Rattle.listing.specs.Starts.{Start}
 use Rattle.rules.specs.Script.{Script}
 use Rattle.verify.specs.Accounts.{Filled}
 use Rattle.verify.specs.Call.{Memory}
@@ -34,7 +34,8 @@ pub record Opens (S : Script) (span : Span) (records work : ℕ) : Type 0 where
   pub work-room : 4 * (1 + E S span) ≤ work
 
 module _ (S : Script) (span : Span) (records work : ℕ) where
-  -- it does not open: one of these tests fails, with this answer, and those before it pass (`shut-really` there)
+  -- it does not open: one of these tests fails, with this answer, and those before it pass (`shut-really` and
+  -- `shut-not-open` there)
   pub data Shut : Answer → Type 0 where
     -- 7: it ends before its entry, or past the code
     out-of-range : (span .end < span .entry) ⊎ (length (S .code) < span .end)

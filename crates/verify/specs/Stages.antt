@@ -12,9 +12,9 @@ use lib.ListN.{length, replicate}
 use Rattle.answer.specs.Answer.{noChunk, numbered}
 use Rattle.answer.specs.declared.Answer.{Answer}
 use Rattle.answer.specs.declared.verdict.Verdict.{Verdict}
-use Rattle.before.specs.Before.{Test, beforeChunks}
+use Rattle.before.specs.Before.{Test}
+use Rattle.before.specs.Calls.{beforeChunks, marksAfter}
 use Rattle.before.specs.Input.{Input}
-use Rattle.before.specs.Memory.{marksAfter}
 use Rattle.demand.specs.Span.{Span}
 use Rattle.judging.specs.declared.Judgement.{Judgement}
 use Rattle.judging.specs.Judges.{mostReached, mostTaken}

@@ -1,7 +1,7 @@
 // The call in stages: everything before the chunks, chunk after chunk, and the end.
 ghost use mathlib.Core.Path.{_≡_};
 ghost use lib.ListN.{length};
-ghost use Rattle.before.specs.Input.{input};
+ghost use Rattle.before.specs.Parameters.{input};
 ghost use Rattle.rules.specs.FromLists.{script};
 ghost use Rattle.verify.specs.Stages.{BothClear, Begins, Advances, Fits, ReadyForChunk, Takes, goesOn, finished};
 use answer::Answer;

@@ -12,7 +12,7 @@ use lib.ListN.{length, getD, take}
 use lib.Seq.{getD-take}
 use Rattle.code.specs.Layout.{among}
 use Rattle.code.specs.Width.{widthOf, widthAt}
-use Rattle.listing.specs.Listing.{Start}
+use Rattle.listing.specs.Starts.{Start}
 use Rattle.listing.proofs.Starts.{start-wide}
 use Rattle.order.specs.Order.{Rising, below}
 use Rattle.order.proofs.Laws.{below-mono}

@@ -9,7 +9,7 @@ ghost use Rattle.code.specs.Width.{widthAt};
 ghost use Rattle.order.specs.Order.{Rising, below};
 ghost use Rattle.rules.specs.Edges.{targetsOf};
 ghost use Rattle.rules.specs.There.{SwitchThere};
-ghost use Rattle.words.specs.Seen.{told, seenAt, noteAt};
+ghost use Rattle.words.specs.Seen.{seenTold, seenAt, noteAt};
 ghost use Rattle.words.specs.Stack.{Clear};
 ghost use Rattle.walk.specs.Leaving.{Pushed, BackOrDone, RoomToLeave, InstructionLeft};
 ghost use Rattle.walk.specs.Hand.{fallen, droppedHand, enteredHand};
@@ -44,7 +44,7 @@ fn is_key(records: &[u32], keys: usize, slot: usize, place: u32) -> bool
 fn seen_at(records: &[u32], room: Room, slot: usize, place: u32) -> Seen
     requires { ⌜ room .keys ≤ length (now records) ⌝ }
     requires { ⌜ room .base + room .keys * 3 ≤ length (now records) ⌝ }
-    ensures { λ r. ⌜ told r ≡ cond (ltb slot (room .keys) && eqb (getD (now (records .entry)) slot 0) place)
+    ensures { λ r. ⌜ seenTold r ≡ cond (ltb slot (room .keys) && eqb (getD (now (records .entry)) slot 0) place)
         (seenAt (now (records .entry)) (room .base + slot * 3)) none ⌝ }
 {
     if is_key(records, room.keys, slot, place) {

@@ -23,7 +23,8 @@ pub kept-below : (words : List ℕ) (i : ℕ) (it : Item) (j : ℕ) → j < i * 
 unfolding put
 kept-below words i it j h = run-below (wordsOf it) words (i * 4) j h
 
-pub kept-above : (words : List ℕ) (i : ℕ) (it : Item) (j : ℕ) → i * 4 + 4 ≤ j → getD (put words i it) j 0 ≡ getD words j 0
+pub kept-above : (words : List ℕ) (i : ℕ) (it : Item) (j : ℕ) → i * 4 + 4 ≤ j
+    → getD (put words i it) j 0 ≡ getD words j 0
 unfolding put
 kept-above words i it j h = run-above (wordsOf it) words (i * 4) j h
 
@@ -64,8 +65,10 @@ pub items-on : (words : List ℕ) (n : ℕ) → items words (n + 1) ≡ itemAt w
 unfolding items
 items-on words n = simp unary-clauses refl
 
-pub items-put : (words : List ℕ) (n : ℕ) (it : Item) → n * 4 + 4 ≤ length words → items (put words n it) (n + 1) ≡ it ∷ items words n
-items-put words n it room = items-on (put words n it) n ∙ rw (put-there words n it room, items-kept words n it n (omega arith))
+pub items-put : (words : List ℕ) (n : ℕ) (it : Item) → n * 4 + 4 ≤ length words
+    → items (put words n it) (n + 1) ≡ it ∷ items words n
+items-put words n it room =
+    items-on (put words n it) n ∙ rw (put-there words n it room, items-kept words n it n (omega arith))
 
 pub length-items : (words : List ℕ) (n : ℕ) → length (items words n) ≡ n
 unfolding items
@@ -93,11 +96,13 @@ items-putAll (it ∷ its) words n room =
 
 -- ---- nothing above
 
-pub clear-putAll : (its : List Item) (words : List ℕ) (n : ℕ) → Clear words n → Clear (putAll words n its) (n + length its)
+pub clear-putAll : (its : List Item) (words : List ℕ) (n : ℕ) → Clear words n
+    → Clear (putAll words n its) (n + length its)
 unfolding putAll
 clear-putAll [] words n c = record { clear = λ i h. c .clear i (omega arith) }
 clear-putAll (it ∷ its) words n c =
-    let more : Clear (put words n it) (n + 1) = record { clear = λ i h. kept-above words n it i (omega arith) ∙ c .clear i (omega arith) } in
+    let more : Clear (put words n it) (n + 1) =
+    record { clear = λ i h. kept-above words n it i (omega arith) ∙ c .clear i (omega arith) } in
     let rest = clear-putAll its (put words n it) (n + 1) more in
     record { clear = λ i h. rest .clear i (omega arith) }
 

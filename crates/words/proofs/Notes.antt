@@ -20,26 +20,33 @@ length-note words at d = length-sets words at (wordsOf d)
 
 -- ---- elsewhere
 
-pub kept-before : (words : List ℕ) (at : ℕ) (d : Depths) (i : ℕ) → i < at → getD (noteAt words at d) i 0 ≡ getD words i 0
+pub kept-before : (words : List ℕ) (at : ℕ) (d : Depths) (i : ℕ) → i < at
+    → getD (noteAt words at d) i 0 ≡ getD words i 0
 unfolding noteAt
 kept-before words at d i h = run-below (wordsOf d) words at i h
 
-pub kept-behind : (words : List ℕ) (at : ℕ) (d : Depths) (i : ℕ) → at + 3 ≤ i → getD (noteAt words at d) i 0 ≡ getD words i 0
+pub kept-behind : (words : List ℕ) (at : ℕ) (d : Depths) (i : ℕ) → at + 3 ≤ i
+    → getD (noteAt words at d) i 0 ≡ getD words i 0
 unfolding noteAt
 kept-behind words at d i h = run-above (wordsOf d) words at i h
 
-same-words : (words others : List ℕ) (at : ℕ) → getD words at 0 ≡ getD others at 0 → getD words (at + 1) 0 ≡ getD others (at + 1) 0
+same-words : (words others : List ℕ) (at : ℕ) → getD words at 0 ≡ getD others at 0
+    → getD words (at + 1) 0 ≡ getD others (at + 1) 0
     → getD words (at + 2) 0 ≡ getD others (at + 2) 0 → seenAt words at ≡ seenAt others at
 unfolding seenAt
 same-words words others at a b c = rw (a, b, c)
 
-pub seen-before : (words : List ℕ) (at : ℕ) (d : Depths) (i : ℕ) → i + 3 ≤ at → seenAt (noteAt words at d) i ≡ seenAt words i
+pub seen-before : (words : List ℕ) (at : ℕ) (d : Depths) (i : ℕ) → i + 3 ≤ at
+    → seenAt (noteAt words at d) i ≡ seenAt words i
 seen-before words at d i h =
-    same-words (noteAt words at d) words i (kept-before words at d i (omega arith)) (kept-before words at d (i + 1) (omega arith)) (kept-before words at d (i + 2) (omega arith))
+    same-words (noteAt words at d) words i (kept-before words at d i (omega arith))
+    (kept-before words at d (i + 1) (omega arith)) (kept-before words at d (i + 2) (omega arith))
 
-pub seen-behind : (words : List ℕ) (at : ℕ) (d : Depths) (i : ℕ) → at + 3 ≤ i → seenAt (noteAt words at d) i ≡ seenAt words i
+pub seen-behind : (words : List ℕ) (at : ℕ) (d : Depths) (i : ℕ) → at + 3 ≤ i
+    → seenAt (noteAt words at d) i ≡ seenAt words i
 seen-behind words at d i h =
-    same-words (noteAt words at d) words i (kept-behind words at d i (omega arith)) (kept-behind words at d (i + 1) (omega arith)) (kept-behind words at d (i + 2) (omega arith))
+    same-words (noteAt words at d) words i (kept-behind words at d i (omega arith))
+    (kept-behind words at d (i + 1) (omega arith)) (kept-behind words at d (i + 2) (omega arith))
 
 -- ---- there
 
@@ -53,7 +60,14 @@ module _ (words : List ℕ) (at : ℕ) (d : Depths) (room : at + 3 ≤ length wo
 
   pub seen-noted : seenAt (noteAt words at d) at ≡ some d
   unfolding seenAt
-  seen-noted = rw (first-word, word-of 1 (omega arith), word-of 2 (omega arith), ne-eqb (d .operands + 1) 0 (λ e. omega arith), less (d .operands))
+  seen-noted =
+      rw (
+        first-word,
+        word-of 1 (omega arith),
+        word-of 2 (omega arith),
+        ne-eqb (d .operands + 1) 0 (λ e. omega arith),
+        less (d .operands),
+      )
     where
       less : (n : ℕ) → n + 1 - 1 ≡ n
       less n = omega arith

@@ -8,13 +8,16 @@ use lib.Seq.{sets, getD-set-same, getD-set-other}
 
 pub run-below : (vs words : List ℕ) (i j : ℕ) → j < i → getD (sets words i vs) j 0 ≡ getD words j 0
 run-below [] words i j h = refl
-run-below (v ∷ vs) words i j h = run-below vs (set words i v) (suc i) j (omega arith) ∙ getD-set-other words i j v 0 (λ e. omega arith)
+run-below (v ∷ vs) words i j h =
+    run-below vs (set words i v) (suc i) j (omega arith) ∙ getD-set-other words i j v 0 (λ e. omega arith)
 
 pub run-above : (vs words : List ℕ) (i j : ℕ) → i + length vs ≤ j → getD (sets words i vs) j 0 ≡ getD words j 0
 run-above [] words i j h = refl
-run-above (v ∷ vs) words i j h = run-above vs (set words i v) (suc i) j (omega arith) ∙ getD-set-other words i j v 0 (λ e. omega arith)
+run-above (v ∷ vs) words i j h =
+    run-above vs (set words i v) (suc i) j (omega arith) ∙ getD-set-other words i j v 0 (λ e. omega arith)
 
-pub run-there : (vs words : List ℕ) (i k : ℕ) → k < length vs → i + length vs ≤ length words → getD (sets words i vs) (i + k) 0 ≡ getD vs k 0
+pub run-there : (vs words : List ℕ) (i k : ℕ) → k < length vs → i + length vs ≤ length words
+    → getD (sets words i vs) (i + k) 0 ≡ getD vs k 0
 run-there [] words i k h room = absurd (omega arith)
 run-there (v ∷ vs) words i zero h room =
     let same : i + 0 ≡ i = omega arith in

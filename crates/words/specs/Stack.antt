@@ -1,5 +1,5 @@
--- Work as words: a stack of items, four words each. Document 01, "Flat pools and sizes": "work, 4 × (1 + E), in 32-bit words";
--- "Order of the tests": "takes the work item pushed last".
+-- Work as words: a stack of items, four words each. Document 01, "Flat pools and sizes": "work, 4 × (1 + E), in 32-bit
+-- words"; "Order of the tests": "takes the work item pushed last".
 use mathlib.Core.List.{List, [], _∷_}
 use mathlib.Core.Path.{_≡_}
 use Prim.Native.Nat.{ℕ, zero, suc, _+_, _*_, _≤_}
@@ -11,7 +11,11 @@ use Rattle.answer.specs.Depths.{Item, zeros}
 unfoldable pub itemAt : List ℕ → ℕ → Item
 itemAt words i = record {
   place = getD words (i * 4) 0;
-  depths = record { operands = getD words (i * 4 + 1) 0; iterators = getD words (i * 4 + 2) 0; handlers = getD words (i * 4 + 3) 0 };
+  depths = record {
+    operands = getD words (i * 4 + 1) 0;
+    iterators = getD words (i * 4 + 2) 0;
+    handlers = getD words (i * 4 + 3) 0;
+  };
 }
 
 -- so many items from the bottom, the last one first

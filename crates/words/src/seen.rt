@@ -4,7 +4,7 @@ ghost use mathlib.Core.Path.{_≡_};
 ghost use Prim.Native.Nat.{_+_, _^_, _≤_, _<_};
 ghost use lib.ListN.{length};
 ghost use Rattle.answer.specs.Depths.{agree};
-ghost use Rattle.words.specs.Seen.{told, seenAt, noteAt};
+ghost use Rattle.words.specs.Seen.{seenTold, seenAt, noteAt};
 use answer::Depths;
 
 // Whether a place was seen, and with which depths.
@@ -16,7 +16,7 @@ pub enum Seen {
 // What the three words from an index on say.
 pub fn recall(records: &[u32], at: usize) -> Seen
     requires { ⌜ at + 3 ≤ length (now records) ⌝ }
-    ensures { λ r. ⌜ told r ≡ seenAt (now (records .entry)) at ⌝ }
+    ensures { λ r. ⌜ seenTold r ≡ seenAt (now (records .entry)) at ⌝ }
 {
     let kept = records[at];
     if kept == 0 {

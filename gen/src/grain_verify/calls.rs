@@ -1,8 +1,9 @@
 //! The two calls that get nearly everything: `begin` and `take_span`.
 
+use super::loans::{fresh, lent, owned, token, Loan};
 use crate::parameter::{Parameter, Sort, Width};
 use crate::template::Holes;
-use crate::text::{chain, conses, lines, list, part, tuple, words};
+use crate::text::{chain, conses, lines, list, tuple, words};
 
 /// Where the code has an argument from: a local, or a field of one.
 pub enum Operand {
@@ -21,13 +22,10 @@ pub struct Argument {
     pub had: Option<String>,
 }
 
-/// A call that is lent buffers. A buffer has a number here, from 1: it is lent for the lifetime `ν` of that number and
-/// under the name `δ` of that number.
 pub struct Call {
-    /// What the file calls it, and the lemma of the file that walks to it.
+    /// What the file calls it.
     pub name: &'static str,
-    pub walk: &'static str,
-    /// Whether its contract has a `requires`, beside which its arguments and tokens then stand.
+    /// Whether its contract has a `requires`, beside which its tokens and arguments then stand.
     pub requires: bool,
     pub arguments: Vec<Argument>,
     /// What it is handed of the numbers and shared slices, and of the buffers.
@@ -36,6 +34,10 @@ pub struct Call {
     /// The list that a buffer holds before the call, and that it is as long as what was passed.
     pub list: fn(&Parameter) -> String,
     pub long: fn(&Parameter) -> String,
+}
+
+fn local(name: &str) -> Operand {
+    Operand::Local(name.to_string())
 }
 
 fn number(width: Width, value: &str, fit: &str, operand: Operand) -> Argument {
@@ -50,16 +52,16 @@ fn number(width: Width, value: &str, fit: &str, operand: Operand) -> Argument {
 
 /// A number or a shared slice that is handed on as it came.
 fn handed_on(parameter: &Parameter) -> Argument {
-    let (name, operand) = (&parameter.name, Operand::Local(parameter.name.clone()));
-    match parameter.sort {
-        Sort::Number(width) => number(width, name, &format!("{name}-fit"), operand),
-        _ => Argument {
-            entry: owned(parameter),
-            denoted: name.clone(),
-            value: parameter.machine_value(),
-            operand,
-            had: None,
-        },
+    let name = &parameter.name;
+    if let Sort::Number(width) = parameter.sort {
+        return number(width, name, &format!("{name}-fit"), local(name));
+    }
+    Argument {
+        entry: owned(parameter),
+        denoted: name.clone(),
+        value: parameter.machine_value(),
+        operand: local(name),
+        had: None,
     }
 }
 
@@ -71,56 +73,19 @@ fn state() -> Argument {
         denoted: "m .state".to_string(),
         value: "mach (m .state)".to_string(),
         operand: local("state"),
-        had: Some(format!(
-            "owned ! S.the-row (Is S.the-row) {makes} (m .state) _ is $"
-        )),
+        had: Some(format!("owned ! S.the-row (Is S.the-row) {makes} (m .state) _ is $")),
     }
-}
-
-fn local(name: &str) -> Operand {
-    Operand::Local(name.to_string())
-}
-
-/// The entries of a context that have to do with a parameter: its token; what is owned of it; and of a buffer that is
-/// lent, the token of the loan, what the callee gets, what the caller keeps, and what says its last list.
-pub fn token(parameter: &Parameter) -> String {
-    format!("token of {}", parameter.name)
-}
-pub fn owned(parameter: &Parameter) -> String {
-    format!("own {}", parameter.name)
-}
-pub fn fresh(parameter: &Parameter) -> String {
-    format!("token of the loan of {}", parameter.name)
-}
-pub fn lent(parameter: &Parameter) -> String {
-    format!("loan of {}", parameter.name)
-}
-pub fn kept(parameter: &Parameter) -> String {
-    format!("rest of {}", parameter.name)
-}
-pub fn last(parameter: &Parameter) -> String {
-    format!("last of {}", parameter.name)
 }
 
 impl Call {
     pub fn begin(handed: &[Parameter]) -> Call {
+        let heights = "(length (heights .now))";
         let lengths = vec![
-            number(
-                Width::Usize,
-                "count",
-                "(chunks-room .0)",
-                local("how many chunks"),
-            ),
-            number(
-                Width::Usize,
-                "(length (heights .now))",
-                "(heights-room .0)",
-                local("how many heights"),
-            ),
+            number(Width::Usize, "count", "(chunks-room .0)", local("how many chunks")),
+            number(Width::Usize, heights, "(heights-room .0)", local("how many heights")),
         ];
         let call = Call {
             name: "begin",
-            walk: "body",
             requires: false,
             arguments: vec![],
             passed: vec![],
@@ -133,29 +98,13 @@ impl Call {
 
     pub fn take(handed: &[Parameter]) -> Call {
         let chunk = vec![
-            number(
-                Width::U32,
-                "(c .entry)",
-                "entry-fit",
-                Operand::Field("chunk", 0),
-            ),
-            number(
-                Width::U32,
-                "(c .end)",
-                "end-fit",
-                Operand::Field("chunk", 1),
-            ),
-            number(
-                Width::U16,
-                "(c .«max_stack»)",
-                "height-fit",
-                Operand::Field("chunk", 2),
-            ),
+            number(Width::U32, "(c .entry)", "entry-fit", Operand::Field("chunk", 0)),
+            number(Width::U32, "(c .end)", "end-fit", Operand::Field("chunk", 1)),
+            number(Width::U16, "(c .«max_stack»)", "height-fit", Operand::Field("chunk", 2)),
             number(Width::Usize, "(m .number)", "number-fit", local("number")),
         ];
         let call = Call {
             name: "take",
-            walk: "more",
             requires: true,
             arguments: vec![state()],
             passed: vec![],
@@ -166,63 +115,44 @@ impl Call {
         call.handed(handed, chunk)
     }
 
-    /// Behind the arguments so far: what is handed on but for the buffers, some more of the call's own, and the buffers.
+    /// Behind the arguments so far: what is handed on but for the buffers, more of the call's own, and the buffers.
     fn handed(mut self, handed: &[Parameter], own: Vec<Argument>) -> Call {
         (self.buffers, self.passed) = handed.iter().cloned().partition(Parameter::is_buffer);
         self.arguments.extend(self.passed.iter().map(handed_on));
         self.arguments.extend(own);
-        let loans: Vec<Argument> = self
-            .numbered()
-            .map(|(number, buffer)| self.loan(number, buffer))
-            .collect();
-        self.arguments.extend(loans);
+        let lent: Vec<Argument> = self.loans().map(|loan| self.lent(&loan)).collect();
+        self.arguments.extend(lent);
         self
     }
 
-    fn loan(&self, number: usize, buffer: &Parameter) -> Argument {
+    fn lent(&self, loan: &Loan) -> Argument {
+        let (name, held) = (&loan.buffer.name, loan.held());
         Argument {
-            entry: lent(buffer),
-            denoted: format!("relent {} δ{number} {}", buffer.name, (self.list)(buffer)),
-            value: buffer.machine_value(),
-            operand: Operand::Local(self.slice_of(buffer)),
+            entry: lent(loan.buffer),
+            denoted: format!("relent {name} δ{} {held}", loan.number),
+            value: loan.buffer.machine_value(),
+            operand: Operand::Local(self.slice_of(loan.buffer)),
             had: None,
         }
     }
 
     pub fn shared(&self) -> impl Iterator<Item = &Parameter> {
-        self.passed
-            .iter()
-            .filter(|parameter| parameter.is_reference())
+        self.passed.iter().filter(|parameter| parameter.is_reference())
     }
 
-    pub fn numbered(&self) -> impl Iterator<Item = (usize, &Parameter)> {
-        (1..).zip(&self.buffers)
+    pub fn loans(&self) -> impl Iterator<Item = Loan<'_>> {
+        let numbered = (1..).zip(&self.buffers);
+        numbered.map(|(number, buffer)| Loan { call: self, number, buffer })
     }
 
-    /// The names of the two locals that a buffer is lent by: a reference, and then a slice.
+    /// The local that refers to a buffer for this call.
     pub fn reference_of(&self, buffer: &Parameter) -> String {
         format!("reference to {} for {}", buffer.name, self.name)
     }
+
+    /// The local that is handed over.
     pub fn slice_of(&self, buffer: &Parameter) -> String {
         format!("slice of {} for {}", buffer.name, self.name)
-    }
-
-    /// The two, with their machine types.
-    pub fn temporaries(&self, buffer: &Parameter) -> [(String, String); 2] {
-        let Sort::Buffer(width) = buffer.sort else {
-            panic!("{} is no buffer", buffer.name)
-        };
-        let reference = format!("tyRef erased mut ({})", width.machine());
-        let slice = format!("sliceTy ({reference})");
-        [
-            (self.reference_of(buffer), reference),
-            (self.slice_of(buffer), slice),
-        ]
-    }
-
-    /// The lifetime that the callee has for the buffer of a number.
-    pub fn lifetime(&self, number: usize) -> usize {
-        self.shared().count() + number - 1
     }
 
     /// How many arguments stand before the buffers: of these the callee says no last value.
@@ -230,128 +160,49 @@ impl Call {
         self.arguments.len() - self.buffers.len()
     }
 
-    /// `ν1 ν2 ν3`, and the like.
-    fn each(&self, letter: &str) -> String {
-        let names: Vec<String> = self
-            .numbered()
-            .map(|(number, _)| format!("{letter}{number}"))
-            .collect();
-        names.join(" ")
+    /// The tokens that the callee gets.
+    pub fn tokens(&self) -> Vec<String> {
+        self.shared().map(token).chain(self.buffers.iter().map(fresh)).collect()
+    }
+
+    /// All entries that are handed over.
+    pub fn handed_over(&self) -> Vec<String> {
+        let shared = ["shared, once more".to_string()];
+        self.tokens().into_iter().chain(shared).chain(self.buffers.iter().map(lent)).collect()
     }
 
     pub fn fill(&self, holes: &mut Holes) {
         let mut set = |hole: &str, text: String| holes.set(format!("{} {hole}", self.name), text);
+        set("buffers", self.buffers.len().to_string());
+        set("silent", self.silent().to_string());
+        set("zeros", vec!["0"; self.buffers.len()].join(" "));
         set("ν", self.each("ν"));
         set("δ", self.each("δ"));
         set("longs", self.each("long"));
-        set("zeros", vec!["0"; self.buffers.len()].join(" "));
-        set(
-            "lifetimes",
-            (self.shared().count() + self.buffers.len()).to_string(),
-        );
-        set("buffers", self.buffers.len().to_string());
-        set("silent", self.silent().to_string());
-        set(
-            "κs",
-            self.over_lifetimes(
-                |n| format!("κ {n}"),
-                |number| format!("ν{number} ∷ []"),
-                tuple,
-            ),
-        );
-        set(
-            "qs",
-            self.over_lifetimes(|n| format!("q {n}"), |_| "fullShare".to_string(), tuple),
-        );
-        set(
-            "args",
-            tuple(self.arguments.iter().map(|argument| &argument.denoted)),
-        );
-        set(
-            "vals",
-            tuple(
-                self.arguments
-                    .iter()
-                    .map(|argument| format!("{} ∷ []", argument.value)),
-            ),
-        );
-        let tokens = |items: Vec<String>| chain("⊛", items) + " ⊛ ‵ ftrue";
-        set(
-            "tokens",
-            self.over_lifetimes(
-                |n| format!("token {n}"),
-                |number| format!("fresh ν{number}"),
-                tokens,
-            ),
-        );
-        set("gets", self.gets());
-        set(
-            "lists",
-            words(self.lists().iter().map(|list| format!("({list})"))),
-        );
-        let lengths = self.buffers.iter().zip(self.lists());
-        set(
-            "lengths",
-            lines(lengths.map(|(buffer, last)| {
-                format!("→ length ({last}) ≡ length {}", (self.list)(buffer))
-            })),
-        );
+        let lifetimes = self.over_lifetimes("κ", |number| format!("ν{number} ∷ []"));
+        set("lifetimes", lifetimes.len().to_string());
+        set("κs", tuple(lifetimes));
+        set("qs", tuple(self.over_lifetimes("q", |_| "fullShare".to_string())));
+        let tokens = self.over_lifetimes("token", |number| format!("fresh ν{number}"));
+        set("tokens", chain("⊛", &tokens) + " ⊛ ‵ ftrue");
+        let lent = |loan: Loan| format!("‵ (Lent-{0} ν{1} δ{1} {2})", loan.buffer.name, loan.number, loan.held());
+        set("gets", format!("{} ∷\n‵ Shared ∷ {}", conses(tokens), list(self.loans().map(lent))));
+        set("args", tuple(self.arguments.iter().map(|argument| &argument.denoted)));
+        set("vals", tuple(self.arguments.iter().map(|argument| format!("{} ∷ []", argument.value))));
+        set("lists", words(self.loans().map(|loan| format!("({})", loan.last_list()))));
+        let length = |loan: Loan| format!("→ length ({}) ≡ length {}", loan.last_list(), loan.held());
+        set("lengths", lines(self.loans().map(length)));
     }
 
-    /// One for each lifetime of the callee's: of a shared slice, and of a buffer by its number.
-    fn over_lifetimes(
-        &self,
-        shared: impl Fn(usize) -> String,
-        buffer: impl Fn(usize) -> String,
-        joined: impl Fn(Vec<String>) -> String,
-    ) -> String {
-        let of_shared = self.shared().map(|parameter| shared(parameter.lifetime));
-        joined(
-            of_shared
-                .chain(self.numbered().map(|(number, _)| buffer(number)))
-                .collect(),
-        )
+    /// `ν1 ν2 ν3`, and the like.
+    fn each(&self, letter: &str) -> String {
+        let names: Vec<String> = self.loans().map(|loan| format!("{letter}{}", loan.number)).collect();
+        names.join(" ")
     }
 
-    /// The tokens that the callee gets.
-    pub fn tokens(&self) -> Vec<String> {
-        self.shared()
-            .map(token)
-            .chain(self.buffers.iter().map(fresh))
-            .collect()
-    }
-
-    /// The entries that are handed over.
-    pub fn handed_over(&self) -> Vec<String> {
-        let shared = ["shared, once more".to_string()];
-        self.tokens()
-            .into_iter()
-            .chain(shared)
-            .chain(self.buffers.iter().map(lent))
-            .collect()
-    }
-
-    /// And what they are.
-    fn gets(&self) -> String {
-        let tokens = self.over_lifetimes(
-            |n| format!("token {n}"),
-            |number| format!("fresh ν{number}"),
-            conses,
-        );
-        let loans = self.numbered().map(|(number, buffer)| {
-            format!(
-                "‵ (Lent-{} ν{number} δ{number} {})",
-                buffer.name,
-                (self.list)(buffer)
-            )
-        });
-        format!("{tokens} ∷\n‵ Shared ∷ {}", list(loans))
-    }
-
-    /// The last lists of the buffers.
-    pub fn lists(&self) -> Vec<String> {
-        (0..self.buffers.len())
-            .map(|number| part("ws", number))
-            .collect()
+    /// One for each lifetime of the callee's: `word` of the number of a shared slice's, and for each loan.
+    fn over_lifetimes(&self, word: &str, loan: fn(usize) -> String) -> Vec<String> {
+        let shared = self.shared().map(|parameter| format!("{word} {}", parameter.lifetime));
+        shared.chain(self.loans().map(|lent| loan(lent.number))).collect()
     }
 }

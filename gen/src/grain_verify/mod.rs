@@ -7,6 +7,7 @@
 
 mod calls;
 mod lists;
+mod loans;
 mod walks;
 
 use crate::parameter::{in_order, Parameter, Sort, Width};
@@ -58,6 +59,11 @@ struct Function {
     locals: Vec<Local>,
 }
 
+/// The parameters as Rattle writes them: `rights: u32`.
+pub fn signature() -> Vec<String> {
+    PARAMETERS.iter().map(|(name, sort, _)| format!("{name}: {}", sort.rattle())).collect()
+}
+
 /// The printed file.
 pub fn proof() -> String {
     let function = Function::new();
@@ -82,20 +88,12 @@ impl Function {
         let parameters = in_order(PARAMETERS.iter().map(|&(name, sort, _)| (name, sort)));
         let handed = |callee: Callee| -> Vec<Parameter> {
             let lines = parameters.iter().zip(PARAMETERS);
-            lines
-                .filter(|(_, line)| line.2.contains(&callee))
-                .map(|(parameter, _)| parameter.clone())
-                .collect()
+            lines.filter(|(_, line)| line.2.contains(&callee)).map(|(parameter, _)| parameter.clone()).collect()
         };
         let begin = Call::begin(&handed(Begin));
         let take = Call::take(&handed(Take));
         let locals = locals(&parameters, &begin, &take);
-        Function {
-            parameters,
-            begin,
-            take,
-            locals,
-        }
+        Function { parameters, begin, take, locals }
     }
 
     fn locals(&self) -> Vec<String> {
@@ -104,70 +102,54 @@ impl Function {
 
     /// The number of a local.
     fn local(&self, name: &str) -> usize {
-        self.locals
-            .iter()
-            .position(|local| local.name == name)
-            .unwrap_or_else(|| panic!("no local {name}"))
+        self.locals.iter().position(|local| local.name == name).unwrap_or_else(|| panic!("no local {name}"))
     }
 
+    /// How many there are: one for each reference.
     fn lifetimes(&self) -> usize {
-        self.parameters
-            .iter()
-            .filter(|parameter| parameter.is_reference())
-            .count()
+        self.references().count()
+    }
+
+    fn references(&self) -> impl Iterator<Item = &Parameter> {
+        self.parameters.iter().filter(|parameter| parameter.is_reference())
     }
 
     fn buffers(&self) -> impl Iterator<Item = &Parameter> {
-        self.parameters
-            .iter()
-            .filter(|parameter| parameter.is_buffer())
+        self.parameters.iter().filter(|parameter| parameter.is_buffer())
     }
 
     /// The shared slices but for the chunks, whose records are looked at one by one.
     fn shared(&self) -> impl Iterator<Item = &Parameter> {
-        self.parameters
-            .iter()
-            .filter(|parameter| matches!(parameter.sort, Shared(_)))
+        self.parameters.iter().filter(|parameter| matches!(parameter.sort, Shared(_)))
+    }
+
+    fn chunks(&self) -> &Parameter {
+        &self.parameters[self.local("chunks") - 1]
     }
 }
 
-/// The locals in the compiler's order: the result, the parameters, the `let`s, and then each temporary where it is made.
+/// The locals in the compiler's order: the result, the parameters, the `let`s, and each temporary where it is made.
 fn locals(parameters: &[Parameter], begin: &Call, take: &Call) -> Vec<Local> {
-    let mut locals = vec![("verdict".to_string(), "D′.mir".to_string())];
-    locals.extend(
-        parameters
-            .iter()
-            .map(|parameter| (parameter.name.clone(), parameter.machine_type())),
-    );
-    let own = |name: &str, machine: &str| (name.to_string(), machine.to_string());
-    locals.extend([
-        own("state", "S′.mir"),
-        own("number", "tyInt w64"),
-        own("chunk", "T′.mir"),
-    ]);
-    locals.extend([
-        own("how many chunks", "tyInt w64"),
-        own("how many heights", "tyInt w64"),
-    ]);
-    locals.extend(
-        begin
-            .buffers
-            .iter()
-            .flat_map(|buffer| begin.temporaries(buffer)),
-    );
-    locals.extend([
-        own("goes", "tyBool"),
-        own("offset", "tyInt w64"),
-        own("place", "tyPtr"),
-        own("read", "T′.mir"),
-    ]);
-    locals.extend(
-        take.buffers
-            .iter()
-            .flat_map(|buffer| take.temporaries(buffer)),
-    );
+    let own = |name: &str, machine: &str| Local { name: name.to_string(), machine: machine.to_string() };
+    let mut locals = vec![own("verdict", "D′.mir")];
+    let passed = parameters.iter().map(|parameter| own(&parameter.name, &parameter.machine_type()));
+    locals.extend(passed);
+    locals.extend([own("state", "S′.mir"), own("number", "tyInt w64"), own("chunk", "T′.mir")]);
+    locals.extend([own("how many chunks", "tyInt w64"), own("how many heights", "tyInt w64")]);
+    locals.extend(lent(begin));
+    locals.extend([own("goes", "tyBool"), own("offset", "tyInt w64")]);
+    locals.extend([own("place", "tyPtr"), own("read", "T′.mir")]);
+    locals.extend(lent(take));
     locals
-        .into_iter()
-        .map(|(name, machine)| Local { name, machine })
-        .collect()
+}
+
+/// The locals by which buffers are lent to a call: for each a reference, and a slice.
+fn lent(call: &Call) -> Vec<Local> {
+    let mut locals = Vec::new();
+    for loan in call.loans() {
+        let names = [call.reference_of(loan.buffer), call.slice_of(loan.buffer)];
+        let both = names.into_iter().zip(loan.machine_types());
+        locals.extend(both.map(|(name, machine)| Local { name, machine }));
+    }
+    locals
 }

@@ -3,7 +3,7 @@ use mathlib.Core.Path.{refl, sym, ap, _∙_}
 use native.Mathlib.Omega.{arith}
 use borrow.Author.Needs.{needs}
 use Rattle.answer.specs.Answer.{told}
-use Rattle.before.specs.Before.{beforeChunks}
+use Rattle.before.specs.Calls.{beforeChunks}
 use Rattle.before.proofs.Held.{untouched, touched}
 use Rattle.before.proofs.Order.{opened, sound}
 use Rattle.before.proofs.Tests.{goes-on, stops, last}

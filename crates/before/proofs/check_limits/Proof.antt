@@ -1,7 +1,7 @@
 -- `before::check_limits` meets its contract: an arm for each answer.
 use mathlib.Core.Path.{sym, ap, _∙_}
 use borrow.Author.Needs.{needs}
-use Rattle.pools.specs.Sizes.{numbered}
+use Rattle.pools.specs.Answers.{limitsTold}
 use Rattle.answer.specs.Answer.{told}
 use Rattle.before.proofs.Tests.{limits-kept, limit-exceeded}
 use Rattle.before.proofs.check_limits.Statement.{statement}
@@ -17,13 +17,13 @@ enum-known-limits : tie.Need-enum-known-limits
 enum-known-limits c = search needs
 
 returns : tie.Need-returns
-unfolding told numbered
-returns c = limits-kept _ (sym (ap numbered (c .enum-told .given .1)) ∙ c .before .before .check-limits .ensures)
+unfolding told limitsTold
+returns c = limits-kept _ (sym (ap limitsTold (c .enum-told .given .1)) ∙ c .before .before .check-limits .ensures)
 
 returns-2 : tie.Need-returns-2
-unfolding told numbered
+unfolding told limitsTold
 returns-2 c =
-    limit-exceeded _ _ (sym (ap numbered (c .before .limits .given .1)) ∙ c .before .before .before .check-limits .ensures)
+    limit-exceeded _ _ (sym (ap limitsTold (c .before .limits .given .1)) ∙ c .before .before .before .check-limits .ensures)
 
 pub check-limits-spec : {M : Type 1} → statement M
 check-limits-spec =

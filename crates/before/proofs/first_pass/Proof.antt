@@ -3,7 +3,7 @@ use Prim.Native.Nat.{_-_}
 use native.Mathlib.Omega.{arith}
 use borrow.Author.Needs.{needs}
 use lib.ListN.{length}
-use Rattle.indices.specs.Indices.{tables}
+use Rattle.indices.specs.Checks.{tables}
 use Rattle.answer.specs.Answer.{told}
 use Rattle.before.proofs.Pass.{Going, going-first, going-next, all-passed, refused-here}
 use Rattle.before.proofs.first_pass.Statement.{statement}

@@ -2,10 +2,10 @@
 use mathlib.Core.Path.{_≡_, refl, sym, ap, _∙_}
 use native.Mathlib.Omega.{arith}
 use borrow.Author.Needs.{needs}
-use Rattle.code.specs.Told.{found}
-use Rattle.code.specs.Width.{widthOf, toldAt, numbered}
+use Rattle.code.specs.Answers.{found, toldAt, widthTold}
+use Rattle.code.specs.Width.{widthOf}
 use Rattle.code.proofs.Widths.{Wide, wide}
-use Rattle.indices.specs.Indices as reference
+use Rattle.indices.specs.Checks.{checkedTold}
 use Rattle.before.specs.Pass.{marksTurned}
 use Rattle.before.proofs.Pass.{turned, there, passed, bad-index, code-ends, no-width}
 use Rattle.before.proofs.pass_instruction.Statement.{statement}
@@ -21,8 +21,8 @@ start p = p .before .before .before .before .before .before .before
 -- where there is one
 module _ (p : tie.After-width) where
   is-told : found (p .width .given .0 .0) ≡ toldAt (start (p .before .before) .args .code .now) (start (p .before .before) .args .at)
-  unfolding numbered
-  is-told = sym (ap numbered (p .width .given .1)) ∙ p .before .before .width-at .ensures
+  unfolding widthTold
+  is-told = sym (ap widthTold (p .width .given .1)) ∙ p .before .before .width-at .ensures
 
   is-wide : Wide widthOf (start (p .before .before) .args .code .now) (start (p .before .before) .args .at) (p .width .given .0 .0)
   is-wide = wide widthOf _ _ _ is-told
@@ -39,10 +39,10 @@ enum-known-checked : tie.Need-enum-known-checked
 enum-known-checked c = search needs
 
 returns : tie.Need-returns
-unfolding reference.numbered marksTurned
+unfolding checkedTold marksTurned
 returns c =
     turned
-    (bad-index _ _ _ _ _ _ _ (is-told (c .before .before .before .before .before)) (sym (ap reference.numbered (c .before .checked .given .1)) ∙ c .before .before .before .check-indices .ensures))
+    (bad-index _ _ _ _ _ _ _ (is-told (c .before .before .before .before .before)) (sym (ap checkedTold (c .before .checked .given .1)) ∙ c .before .before .before .check-indices .ensures))
     _ _ refl
 
 enum-told : tie.Need-enum-told
@@ -71,26 +71,26 @@ same-length : tie.Need-same-length
 same-length c = search needs
 
 returns-2 : tie.Need-returns-2
-unfolding reference.numbered marksTurned
+unfolding checkedTold marksTurned
 returns-2 c =
     let fine = c .before .before .before .before in
     turned
-    (passed _ _ _ _ _ (is-told (fine .before .before .before .before)) (sym (ap reference.numbered (fine .enum-told .given .1)) ∙ fine .before .before .check-indices .ensures))
+    (passed _ _ _ _ _ (is-told (fine .before .before .before .before)) (sym (ap checkedTold (fine .enum-told .given .1)) ∙ fine .before .before .check-indices .ensures))
     _ _ (c .before .before .set-start .ensures)
 
 returns-3 : tie.Need-returns-3
-unfolding numbered marksTurned
-returns-3 c = turned (code-ends _ _ _ _ (sym (ap numbered (c .enum-told2 .given .1)) ∙ c .before .before .width-at .ensures)) _ _ refl
+unfolding widthTold marksTurned
+returns-3 c = turned (code-ends _ _ _ _ (sym (ap widthTold (c .enum-told2 .given .1)) ∙ c .before .before .width-at .ensures)) _ _ refl
 
 returns-4 : tie.Need-returns-4
-unfolding numbered marksTurned
+unfolding widthTold marksTurned
 returns-4 c =
-    turned (no-width _ _ _ _ 2 (omega arith) (sym (ap numbered (c .enum-told3 .given .1)) ∙ c .before .before .width-at .ensures)) _ _ refl
+    turned (no-width _ _ _ _ 2 (omega arith) (sym (ap widthTold (c .enum-told3 .given .1)) ∙ c .before .before .width-at .ensures)) _ _ refl
 
 returns-5 : tie.Need-returns-5
-unfolding numbered marksTurned
+unfolding widthTold marksTurned
 returns-5 c =
-    turned (no-width _ _ _ _ 3 (omega arith) (sym (ap numbered (c .enum-told4 .given .1)) ∙ c .before .before .width-at .ensures)) _ _ refl
+    turned (no-width _ _ _ _ 3 (omega arith) (sym (ap widthTold (c .enum-told4 .given .1)) ∙ c .before .before .width-at .ensures)) _ _ refl
 
 pub pass-instruction-spec : {M : Type 1} → statement M
 pass-instruction-spec =

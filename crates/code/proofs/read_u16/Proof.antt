@@ -2,7 +2,7 @@
 use Prim.Native.Nat.{_+_}
 use native.Mathlib.Omega.{arith}
 use borrow.Author.Needs.{needs}
-use Rattle.code.specs.Numbers.{little}
+use Rattle.code.specs.Layout.{little}
 use Rattle.code.proofs.read_u16.Statement.{statement}
 use Rattle.code.proofs.read_u16.Tie as tie
 

@@ -2,8 +2,7 @@
 use mathlib.Core.Path.{_∙_, ap}
 use native.Mathlib.Omega.{arith}
 use borrow.Author.Needs.{needs}
-use Rattle.code.specs.Numbers.{numbered32}
-use Rattle.code.specs.Told.{found}
+use Rattle.code.specs.Answers.{numbered32, found}
 use Rattle.code.proofs.Little.{number-there, number-cut}
 use Rattle.code.proofs.u32_at.Statement.{statement}
 use Rattle.code.proofs.u32_at.Tie as tie

@@ -4,7 +4,8 @@
 -- between two stages of a call (`verify`'s `Between`); here what is lent is handed to each callee and had back.
 --
 -- The locals, by their numbers:
---     0 the verdict; 1 to 17 the parameters; 18 the state; 19 the number; 20 the chunk
+--     0 the verdict; 1 to 17 the parameters
+--     18 the state; 19 the number; 20 the chunk
 --     21 to 28 what `begin` is handed: lengths, then for each buffer a reference and a slice
 --     29 whether another chunk is there; 30 how many there are, then an offset
 --     31 where the chunk lies; 32 the chunk as it is read
@@ -66,7 +67,8 @@ use denote.Triple.Table.{entered, cited}
 use denote.Triple.Walked.{says, Stays, stay-none, stay-none-slice, stay-slice, walkOf, goes-none, goes-none-slice}
 use denote.Triple.Walked.{goes-slice, Walks, ends-at, walked, walk-meets}
 use denote.Exit.{yes}
-use Rattle.before.specs.Input.{Input, input}
+use Rattle.before.specs.Input.{Input}
+use Rattle.before.specs.Parameters.{input}
 use Rattle.answer.specs.declared.verdict.Verdict.{Verdict}
 use Rattle.demand.specs.Span.{Span}
 use Rattle.rules.specs.FromLists.{script}
@@ -464,8 +466,8 @@ module _ {M : Type 1} (𝓤 : URA M) (H : Heap 𝓤) (A : Atoms 𝓤) (W : Given
       nothing ! $ nothing ! $
       keep ! (7 ∷ 6 ∷ 8 ∷ 9 ∷ 5 ∷ 4 ∷ 10 ∷ 11 ∷ 12 ∷ 13 ∷ 14 ∷ 15 ∷ 3 ∷ 2 ∷ 27 ∷ 28 ∷ 29 ∷ 0 ∷ 16 ∷ 17 ∷ 18 ∷ 19 ∷ 20 ∷
       21 ∷ 22 ∷ 23 ∷ 24 ∷ 25 ∷ 26 ∷ 1 ∷ []) $
-      group ! 18 $ move ! (1 ∷ 2 ∷ 3 ∷ 4 ∷ 5 ∷ 6 ∷ 7 ∷ 8 ∷ 9 ∷ 10 ∷ 11 ∷ 12 ∷
-      []) $ group ! 12 $ join ! $ frame ! $ done !
+      group ! 18 $
+      move ! (1 ∷ 2 ∷ 3 ∷ 4 ∷ 5 ∷ 6 ∷ 7 ∷ 8 ∷ 9 ∷ 10 ∷ 11 ∷ 12 ∷ []) $ group ! 12 $ join ! $ frame ! $ done !
 
   -- of so many chunks
   abbrev Begun : ℕ → State → Lists 3 → Type 0
@@ -756,7 +758,9 @@ module _ {M : Type 1} (𝓤 : URA M) (H : Heap 𝓤) (A : Atoms 𝓤) (W : Given
       Below t = ex 𝓤 (λ (u : ℕ). guard 𝓤 (u < t) (Inv u))
 
       abbrev Left : Out → SProp 𝓤
-      Left = afterBlock 𝓤 H (afterSeq 𝓤 H (Wp 𝓤 H C Λ En mir′.t-12 (atReturn 𝓤 H En Post)) (atReturn 𝓤 H En Post))
+      Left =
+          afterBlock 𝓤 H
+          (afterSeq 𝓤 H (Wp 𝓤 H C Λ En mir′.t-12 (atReturn 𝓤 H En Post)) (atReturn 𝓤 H En Post))
 
       kept : (t : ℕ) (m : Moment) → Kept t m → ent 𝓤 (⋆ 𝓤 H A (At m)) (Inv t)
       kept t m k =
@@ -799,8 +803,9 @@ module _ {M : Type 1} (𝓤 : URA M) (H : Heap 𝓤) (A : Atoms 𝓤) (W : Given
       unfolding afterTurn
       more t m k ge =
           -- the chunk is read: the slice is looked into, and the element taken out and put back
-          assigns ! (bin ! (value ! 19 refl) (lit ! tt) (record { fits = small count (m .number) lt (chunks-room .1) }))
-          (from ! (stop !)) (store ! 30 refl (tt, record { fits = small count (m .number) lt (chunks-room .1) })) $
+          assigns ! (bin ! (value ! 19 refl) (lit ! tt)
+          (record { fits = small count (m .number) lt (chunks-room .1) })) (from ! (stop !))
+          (store ! 30 refl (tt, record { fits = small count (m .number) lt (chunks-room .1) })) $
           assigns ! (bin ! (load ! (from ! (fld ! refl (stop !))) (look-in ! 13 (sub ! 0 refl (whole !))))
           (value ! 30 refl) tt)
           (from ! (stop !)) (init ! 31 refl (tt, tt)) $
@@ -816,9 +821,11 @@ module _ {M : Type 1} (𝓤 : URA M) (H : Heap 𝓤) (A : Atoms 𝓤) (W : Given
           (LL.vals T.the-type T′.the-laws) (LL.tells T.the-type T′.the-laws)
           q′ (chunks .now) (m .number) no-chunk (chunks .ptr .0) (chunks .ptr .1) lt (λ isC.
           assigns ! (of-opd ! (load ! (from ! (hop ! (look ! 38 refl) (stop !))) (look-raw ! 0 refl)))
-          (from ! (stop !)) (init ! 39 refl (LL.lawful T.the-type T′.the-laws 𝓤 H A W .typed chunk _ isC .0)) $
+          (from ! (stop !))
+          (init ! 39 refl (LL.lawful T.the-type T′.the-laws 𝓤 H A W .typed chunk _ isC .0)) $
           assigns ! (of-opd ! (value ! 39 refl))
-          (from ! (stop !)) (init ! 27 refl (LL.lawful T.the-type T′.the-laws 𝓤 H A W .typed chunk _ isC .0)) $
+          (from ! (stop !))
+          (init ! 27 refl (LL.lawful T.the-type T′.the-laws 𝓤 H A W .typed chunk _ isC .0)) $
           elem-back ! T.the-row q′ (chunks .now) (m .number) no-chunk (LL.vals T.the-type T′.the-laws chunk)
           (chunks .ptr .0) (chunks .ptr .1) lt $
           shuts-slice ! tt T.the-row q′ (chunks .now) (chunks .ptr .0) (chunks .ptr .1) $
@@ -880,7 +887,8 @@ module _ {M : Type 1} (𝓤 : URA M) (H : Heap 𝓤) (A : Atoms 𝓤) (W : Given
           move ! (4 ∷ []) $ split ! $
           move ! (1 ∷ []) $ peeks ! S.the-row (Is S.the-row) (shows 𝓤 H A S.the-row) z (v ∷ []) (λ is. lose ! $
           move ! (locals-at 5) $
-          land ! (from ! (stop !)) (store ! 18 refl (EL.lawful S.the-type S′.the-laws 𝓤 H A W tt .typed z _ is .0)) $
+          land ! (from ! (stop !))
+          (store ! 18 refl (EL.lawful S.the-type S′.the-laws 𝓤 H A W tt .typed z _ is .0)) $
           rewrite ! 18 (λ (u : Val). ‵ (fat fullShare S′.mir (L 18) 0 u))
           (ap only (EL.tells S.the-type S′.the-laws z _ is)) refl $
           move ! (41 ∷ []) $ spread ! 11 $
@@ -906,7 +914,8 @@ module _ {M : Type 1} (𝓤 : URA M) (H : Heap 𝓤) (A : Atoms 𝓤) (W : Given
           45 ∷ 43 ∷ 41 ∷ [])) $
           by ! (below t (count - (m .number + 1)) (taken m z (lists 13 ws))
           (subst (λ (n : ℕ). count - (m .number + 1) < n) (k .left-over) (less count (m .number) lt))
-          (next-kept t m k ge z (lists 13 ws) (subst (Is S.the-row z) (EL.tells S.the-type S′.the-laws z _ is) is)
+          (next-kept t m k ge z (lists 13 ws)
+          (subst (Is S.the-row z) (EL.tells S.the-type S′.the-laws z _ is) is)
           long1 long2 long3 long4 said)))))))))))))))))
         where
           chunk : Chunk
@@ -941,10 +950,10 @@ module _ {M : Type 1} (𝓤 : URA M) (H : Heap 𝓤) (A : Atoms 𝓤) (W : Given
           land ! (from ! (stop !)) (init ! 29 refl (bool-lawful 𝓤 H A W .typed r _ is .0)) $
           rewrite ! 29 (λ (u : Val). ‵ (fat fullShare tyBool (L 29) 0 u)) (ap only is) refl $
           by-answer r
-          (λ yes-so. rewrite ! 29 (λ (y : Bool). ‵ (fat fullShare tyBool (L 29) 0 (vbool y))) yes-so refl $
-          stays ! (value ! 29 refl) $ more t m k (sym e ∙ yes-so))
-          (λ no-so. rewrite ! 29 (λ (y : Bool). ‵ (fat fullShare tyBool (L 29) 0 (vbool y))) no-so refl $
-          leaves-loop ! (value ! 29 refl) $ exec ! C Λ En mir′.t-12 (atRet En Post) $
+          (λ yes-so. rewrite ! 29 (λ (y : Bool). ‵ (fat fullShare tyBool (L 29) 0 (vbool y)))
+          yes-so refl $ stays ! (value ! 29 refl) $ more t m k (sym e ∙ yes-so))
+          (λ no-so. rewrite ! 29 (λ (y : Bool). ‵ (fat fullShare tyBool (L 29) 0 (vbool y)))
+          no-so refl $ leaves-loop ! (value ! 29 refl) $ exec ! C Λ En mir′.t-12 (atRet En Post) $
           by ! (over m (k .is) (k .long) (done-so t m k (sym e ∙ no-so))))))))
 
       turns : (t : ℕ) → ent 𝓤 (Inv t) (Wp 𝓤 H C Λ En mir′.turn-1 (afterTurn 𝓤 H (Below t) Left))
@@ -1011,7 +1020,8 @@ module _ {M : Type 1} (𝓤 : URA M) (H : Heap 𝓤) (A : Atoms 𝓤) (W : Given
           move ! (3 ∷ []) $ split ! $
           move ! (1 ∷ []) $ peeks ! S.the-row (Is S.the-row) (shows 𝓤 H A S.the-row) z (v ∷ []) (λ is. lose ! $
           move ! (locals-at 4) $
-          land ! (from ! (stop !)) (init ! 18 refl (EL.lawful S.the-type S′.the-laws 𝓤 H A W tt .typed z _ is .0)) $
+          land ! (from ! (stop !))
+          (init ! 18 refl (EL.lawful S.the-type S′.the-laws 𝓤 H A W tt .typed z _ is .0)) $
           rewrite ! 18 (λ (u : Val). ‵ (fat fullShare S′.mir (L 18) 0 u))
           (ap only (EL.tells S.the-type S′.the-laws z _ is)) refl $
           move ! (41 ∷ []) $ spread ! 11 $
@@ -1024,7 +1034,8 @@ module _ {M : Type 1} (𝓤 : URA M) (H : Heap 𝓤) (A : Atoms 𝓤) (W : Given
           (work .now) refl ν3 δ3 (lists 14 ws .1 .1 .0) work-room long3 $
           -- the number is 0, and the loop begins
           move ! (locals-at 15) $
-          assigns ! (of-opd ! (lit ! tt)) (from ! (stop !)) (init ! 19 refl (tt, record { fits = lit< tt })) $
+          assigns ! (of-opd ! (lit ! tt)) (from ! (stop !))
+          (init ! 19 refl (tt, record { fits = lit< tt })) $
           forget ! 21 refl $ forget ! 22 refl $ forget ! 23 refl $ forget ! 24 refl $ forget ! 25 refl $
           forget ! 26 refl $ forget ! 27 refl $ forget ! 28 refl $
           keep ! (locals-at 0 ++ (57 ∷ 47 ∷ 48 ∷ 49 ∷ 50 ∷ 51 ∷ 52 ∷ 53 ∷ 54 ∷ 58 ∷ 46 ∷ 59 ∷ 44 ∷ 42 ∷ 56 ∷ 60 ∷ 45 ∷

@@ -7,7 +7,9 @@ use native.Mathlib.Omega.{arith}
 use borrow.Author.Needs.{needs}
 use Rattle.code.specs.Width.{widthOf}
 use Rattle.code.proofs.Widths.{width-there}
-use Rattle.indices.specs.Indices.{Tables, tables, sizeOf, inCode, inRecord, refs, fine, numbered, firstBad}
+use Rattle.pools.specs.Told.{fine}
+use Rattle.indices.specs.Indices.{Tables, sizeOf, inCode, inRecord, refs, firstBadRef}
+use Rattle.indices.specs.Checks.{tables, checkedTold}
 use Rattle.indices.proofs.Laws.{goes-on, stops}
 use Rattle.indices.proofs.Named.{chain-read, switch-read, chain-entry, switch-entry, chain-record, switch-record, no-record}
 use Rattle.indices.proofs.check_indices.Statement.{statement}
@@ -42,12 +44,12 @@ module _ (p : tie.After-enum-told2) where
   abbrev size : ℕ → ℕ
   size = sizeOf (start .args .sizes)
 
-  own : firstBad size (inCode code at) ≡ fine
-  unfolding numbered
-  own = sym (p .before .before .check-fields .ensures) ∙ ap numbered (p .enum-told2 .given .1)
+  own : firstBadRef size (inCode code at) ≡ fine
+  unfolding checkedTold
+  own = sym (p .before .before .check-fields .ensures) ∙ ap checkedTold (p .enum-told2 .given .1)
 
   -- the answer is the record's
-  rest : firstBad size (inRecord t code at) ≡ firstBad size (refs t code at)
+  rest : firstBadRef size (inRecord t code at) ≡ firstBadRef size (refs t code at)
   rest = goes-on size (inRecord t code at) (inCode code at) (p .before .before .check-fields .ensures) (p .enum-told2 .given .1)
 
 shared-slice-read-tag : tie.Need-shared-slice-read-tag
@@ -106,7 +108,7 @@ returns-3 c =
     (c .check-switch-indices .ensures)
 
 returns-4 : tie.Need-returns-4
-unfolding numbered firstBad
+unfolding checkedTold firstBadRef
 returns-4 c =
     let p = c .before .before in
     rw (← rest p, no-record (t p) (code p) (at p) (c .match2 .rest .0 .1) (c .match2 .rest .1))

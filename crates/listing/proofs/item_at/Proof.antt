@@ -2,9 +2,10 @@
 use mathlib.Core.Path.{_∙_, ap, sym}
 use native.Mathlib.Omega.{arith}
 use borrow.Author.Needs.{needs}
-use Rattle.code.specs.Width as width
+use Rattle.code.specs.Answers.{widthTold}
+use Rattle.code.specs.Width.{widthOf}
 use Rattle.code.proofs.Widths.{Wide, wide}
-use Rattle.listing.specs.Listing.{numbered}
+use Rattle.listing.specs.Listing.{itemTold}
 use Rattle.listing.proofs.Items.{listed-there, listed-end, listed-none}
 use Rattle.listing.proofs.item_at.Statement.{statement}
 use Rattle.listing.proofs.item_at.Tie as tie
@@ -17,12 +18,12 @@ enum-known-width c = search needs
 
 -- the width of the first arm
 there : (c : tie.After-shared-slice-known2)
-    → Wide width.widthOf (c .before .before .before .before .before .before .args .code .now)
+    → Wide widthOf (c .before .before .before .before .before .before .args .code .now)
     (c .before .before .before .before .before .before .args .at) (c .before .before .width .given .0 .0)
-unfolding width.numbered
+unfolding widthTold
 there c =
-    wide width.widthOf _ _ _
-    (sym (ap width.numbered (c .before .before .width .given .1)) ∙ c .before .before .before .before .width-at .ensures)
+    wide widthOf _ _ _
+    (sym (ap widthTold (c .before .before .width .given .1)) ∙ c .before .before .before .before .width-at .ensures)
 
 shared-slice-read-t7 : tie.Need-shared-slice-read-t7
 shared-slice-read-t7 c = there c .byte
@@ -40,26 +41,26 @@ enum-told-3 : tie.Need-enum-told-3
 enum-told-3 c = search needs
 
 returns : tie.Need-returns
-unfolding numbered width.numbered
+unfolding itemTold widthTold
 returns c =
-    listed-there width.widthOf _ _ _
-    (sym (ap width.numbered (c .before .before .width .given .1)) ∙ c .before .before .before .before .width-at .ensures)
+    listed-there widthOf _ _ _
+    (sym (ap widthTold (c .before .before .width .given .1)) ∙ c .before .before .before .before .width-at .ensures)
 
 returns-2 : tie.Need-returns-2
-unfolding numbered width.numbered
-returns-2 c = listed-end width.widthOf _ _ (sym (ap width.numbered (c .enum-told .given .1)) ∙ c .before .before .width-at .ensures)
+unfolding itemTold widthTold
+returns-2 c = listed-end widthOf _ _ (sym (ap widthTold (c .enum-told .given .1)) ∙ c .before .before .width-at .ensures)
 
 returns-3 : tie.Need-returns-3
-unfolding numbered width.numbered
+unfolding itemTold widthTold
 returns-3 c =
-    listed-none width.widthOf _ _ 2 (omega arith)
-    (sym (ap width.numbered (c .enum-told2 .given .1)) ∙ c .before .before .width-at .ensures)
+    listed-none widthOf _ _ 2 (omega arith)
+    (sym (ap widthTold (c .enum-told2 .given .1)) ∙ c .before .before .width-at .ensures)
 
 returns-4 : tie.Need-returns-4
-unfolding numbered width.numbered
+unfolding itemTold widthTold
 returns-4 c =
-    listed-none width.widthOf _ _ 3 (omega arith)
-    (sym (ap width.numbered (c .enum-told3 .given .1)) ∙ c .before .before .width-at .ensures)
+    listed-none widthOf _ _ 3 (omega arith)
+    (sym (ap widthTold (c .enum-told3 .given .1)) ∙ c .before .before .width-at .ensures)
 
 pub item-at-spec : {M : Type 1} → statement M
 item-at-spec =

@@ -8,7 +8,7 @@ use borrow.Author.Needs.{needs}
 use lib.Bits.{bitAnd, and-mask}
 use lib.Dec.{eqb}
 use lib.ListN.{length, getD}
-use Rattle.marks.specs.Marks.{bitAt, isOne}
+use Rattle.marks.specs.Places.{bitAt, isOne}
 use Rattle.marks.proofs.Laws.{bit-past}
 use Rattle.marks.proofs.starts_at.Statement.{statement}
 use Rattle.marks.proofs.starts_at.Tie as tie

@@ -7,9 +7,9 @@ use denote.Ref.{now}
 use lib.ListN.{length, getD}
 use Rattle.code.specs.Width.{widthOf, widthAt}
 use Rattle.code.proofs.Widths.{Wide, width-there}
-use Rattle.listing.specs.Listing.{Start}
+use Rattle.listing.specs.Starts.{Start}
 use Rattle.listing.proofs.Starts.{start-wide}
-use Rattle.pools.specs.Sizes.{maxTargets}
+use Rattle.pools.specs.Good.{maxTargets}
 use Rattle.pools.proofs.Most.{code-small}
 use Rattle.opening.specs.Listing.{targetsAt}
 use Rattle.opening.proofs.Kept.{Kept, few-targets, first-kept, next-kept, kept-length, all-kept, opened-length}

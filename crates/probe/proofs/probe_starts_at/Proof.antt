@@ -6,7 +6,7 @@ use mathlib.Core.Path.{_≡_, sym, _∙_}
 use Prim.Native.Nat.{ℕ}
 use borrow.Author.Needs.{needs}
 use borrow.Author.Tests.{eqb-true, eqb-false}
-use Rattle.marks.specs.Marks.{bitAt, isOne}
+use Rattle.marks.specs.Places.{bitAt, isOne}
 use Rattle.marks.proofs.Laws.{bit-either}
 use Rattle.probe.proofs.probe_starts_at.Statement.{statement}
 use Rattle.probe.proofs.probe_starts_at.Tie as tie

@@ -1,7 +1,7 @@
 -- `probe::probe_u16` meets its contract: the numbers of the answer are carried over.
 use mathlib.Core.Path.{_∙_, ap, sym}
 use borrow.Author.Needs.{needs}
-use Rattle.code.specs.Numbers.{numbered16}
+use Rattle.code.specs.Answers.{numbered16}
 use Rattle.probe.proofs.Across.{told}
 use Rattle.probe.proofs.probe_u16.Statement.{statement}
 use Rattle.probe.proofs.probe_u16.Tie as tie

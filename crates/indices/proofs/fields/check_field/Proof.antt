@@ -1,5 +1,5 @@
 -- `indices::fields::check_field` meets its contract: the digits say where the index stands and how large its pool is.
-use Rattle.indices.specs.Indices.{firstBad}
+use Rattle.indices.specs.Indices.{firstBadRef}
 use borrow.Author.Needs.{needs}
 use Rattle.indices.proofs.fields.check_field.Statement.{statement}
 use Rattle.indices.proofs.fields.check_field.Tie as tie
@@ -26,7 +26,7 @@ bounded-requires : tie.Need-bounded-requires
 bounded-requires c κs = search needs
 
 returns : tie.Need-returns
-unfolding firstBad
+unfolding firstBadRef
 returns c = rw (← c .before .before .read-u16 .ensures, ← c .before .size-of .ensures) (c .bounded .ensures)
 
 pub check-field-spec : {M : Type 1} → statement M

@@ -7,7 +7,7 @@ use borrow.Author.Needs.{needs}
 use Rattle.code.specs.Layout.{tagAt}
 use Rattle.code.specs.Width.{widthOf}
 use Rattle.code.proofs.Widths.{width-there}
-use Rattle.indices.specs.Indices.{numbered}
+use Rattle.indices.specs.Checks.{checkedTold}
 use Rattle.indices.proofs.Unpacked.{none, first-within, second-within, first-bad, no-second, a-second}
 use Rattle.indices.proofs.fields.check_fields.Statement.{statement}
 use Rattle.indices.proofs.fields.check_fields.Tie as tie
@@ -29,7 +29,7 @@ module _ (entry : tie.After-fields-of) where
   byte = entry .before .shared-slice-known2 .given at .fits
 
 returns : tie.Need-returns
-unfolding numbered
+unfolding checkedTold
 returns c = none _ _ _ (c .before .fields-of .ensures) _ (c .if1 .taken)
 
 check-field-requires : tie.Need-check-field-requires
@@ -50,7 +50,7 @@ enum-told-2 : tie.Need-enum-told-2
 enum-told-2 c = search needs
 
 returns-3 : tie.Need-returns-3
-unfolding numbered
+unfolding checkedTold
 returns-3 c =
     let some = c .before .before .before .before in
     no-second _ _ _ (some .before .fields-of .ensures) _ (some .if1 .left) (c .before .before .before .check-field .ensures)

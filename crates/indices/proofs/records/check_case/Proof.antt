@@ -1,7 +1,7 @@
 -- `indices::records::check_case` meets its contract: the pool of constants is as large as there are constants.
 use borrow.Author.Needs.{needs}
 use Rattle.pools.specs.Pools.{caseAt}
-use Rattle.indices.specs.Indices.{sizeOf, caseRefs, firstBad}
+use Rattle.indices.specs.Indices.{sizeOf, caseRefs, firstBadRef}
 use Rattle.indices.proofs.records.check_case.Statement.{statement}
 use Rattle.indices.proofs.records.check_case.Tie as tie
 
@@ -21,7 +21,7 @@ bounded-requires : tie.Need-bounded-requires
 bounded-requires c κs = search needs
 
 returns : tie.Need-returns
-unfolding caseAt caseRefs sizeOf firstBad
+unfolding caseAt caseRefs sizeOf firstBadRef
 returns c = c .bounded .ensures
 
 pub check-case-spec : {M : Type 1} → statement M

@@ -3,7 +3,8 @@ use Prim.Native.Nat.{_-_}
 use native.Mathlib.Omega.{arith}
 use borrow.Author.Needs.{needs}
 use Rattle.pools.specs.Pools.{caseAt}
-use Rattle.indices.specs.Indices.{numbered, sizeOf, caseRefs}
+use Rattle.indices.specs.Indices.{sizeOf, caseRefs}
+use Rattle.indices.specs.Checks.{checkedTold}
 use Rattle.indices.proofs.InTurn.{Turn, starts, next, bad-here, done}
 use Rattle.indices.proofs.records.check_cases.Statement.{statement}
 use Rattle.indices.proofs.records.check_cases.Tie as tie
@@ -49,7 +50,7 @@ loop-again c =
     (c .enum-told2 .given .1)
 
 returns-2 : tie.Need-returns-2 Inv-loop μ-loop
-unfolding numbered
+unfolding checkedTold
 returns-2 c = done _ _ _ (c .before .loop .inv) (c .loop-test .left)
 
 pub check-cases-spec : {M : Type 1} → statement M

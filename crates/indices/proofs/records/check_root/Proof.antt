@@ -1,7 +1,8 @@
 -- `indices::records::check_root` meets its contract: its test is the definition's.
 use borrow.Author.Tests.{le-leb, lt-leb}
 use borrow.Author.Needs.{needs}
-use Rattle.indices.specs.Indices.{numbered, rootRefs, firstBad}
+use Rattle.indices.specs.Indices.{rootRefs, firstBadRef}
+use Rattle.indices.specs.Checks.{checkedTold}
 use Rattle.indices.proofs.records.check_root.Statement.{statement}
 use Rattle.indices.proofs.records.check_root.Tie as tie
 
@@ -13,7 +14,7 @@ unfolding rootRefs
 returns c = rw (le-leb _ _ (c .before .if1 .taken)) (c .check-name .ensures)
 
 returns-2 : tie.Need-returns-2
-unfolding rootRefs numbered firstBad
+unfolding rootRefs checkedTold firstBadRef
 returns-2 c = rw (lt-leb _ _ (c .if1 .left))
 
 pub check-root-spec : {M : Type 1} → statement M

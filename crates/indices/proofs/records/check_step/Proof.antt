@@ -2,7 +2,8 @@
 use borrow.Author.Tests.{ne-eqb}
 use borrow.Author.Needs.{needs}
 use Rattle.pools.specs.Pools.{stepAt}
-use Rattle.indices.specs.Indices.{numbered, stepRefs, firstBad}
+use Rattle.indices.specs.Indices.{stepRefs, firstBadRef}
+use Rattle.indices.specs.Checks.{checkedTold}
 use Rattle.indices.proofs.records.check_step.Statement.{statement}
 use Rattle.indices.proofs.records.check_step.Tie as tie
 
@@ -57,7 +58,7 @@ unfolding stepAt stepRefs
 returns-2 c = rw (c .before .match .keys2) (c .check-name .ensures)
 
 returns-3 : tie.Need-returns-3
-unfolding stepAt stepRefs numbered firstBad
+unfolding stepAt stepRefs checkedTold firstBadRef
 returns-3 c = simp (ne-eqb _ _ (c .match .rest .1), ne-eqb _ _ (c .match .rest .0 .1))
 
 pub check-step-spec : {M : Type 1} → statement M

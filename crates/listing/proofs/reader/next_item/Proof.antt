@@ -41,7 +41,7 @@ use denote.Triple.Entry.{Vals, onEntry}
 use denote.Triple.Spec.{Meets, tripleOf}
 use denote.Triple.Table.{entered, cited}
 use denote.Triple.Walked.{says, Stays, stay-none, walkOf, goes-none, ends-at, walked, walk-meets}
-use Rattle.listing.specs.Listing.{ListedTold, numbered, listedAt}
+use Rattle.listing.specs.Listing.{ListedTold, itemTold, listedAt}
 use Rattle.listing.specs.declared.Listed.{Listed}
 use Rattle.listing.specs.declared.reader.Reader.{Reader}
 use Rattle.listing.proofs.Returned.{returned}
@@ -119,7 +119,7 @@ module _ {M : Type 1} (𝓤 : URA M) (H : Heap 𝓤) (A : Atoms 𝓤) (W : Given
       frame ! $ done !)
 
   -- the end: the callee's result, with the fact of its contract, is the result
-  exits : (r : Listed) (u : Val) → numbered r ≡ told
+  exits : (r : Listed) (u : Val) → itemTold r ≡ told
       → ent 𝓤 (⋆ 𝓤 H A (‵ (S.the-row .own r (u ∷ [])) ∷ (‵ (flft κ q) ⊛ ‵ ftrue) ∷ ‵ Own ∷ [])) (Post u)
   exits r u e =
       qed W (‵ (S.the-row .own r (u ∷ [])) ∷ (‵ (flft κ q) ⊛ ‵ ftrue) ∷ ‵ Own ∷ []) ∵
@@ -143,7 +143,7 @@ module _ {M : Type 1} (𝓤 : URA M) (H : Heap 𝓤) (A : Atoms 𝓤) (W : Given
       move ! (8 ∷ []) $ use1 W (raw (ItemAt 𝓤 H A mem run .pre to) ⊛ ‵ Own) (apart (wt .1 .1 .0 .fits)) $ split ! $
       calls-at ! fm (ItemAt 𝓤 H A mem run) known to
       (and-then ! (load ! (from ! (stop !)) (look ! 4 refl)) (and-then ! (load ! (from ! (stop !)) (look ! 2 refl)) (no-more !))) (λ u.
-      returned W ! tt g.ended (g.clauses 𝓤 H A mem run) to (λ (r : Listed). numbered r ≡ told) (λ r ws. id⊢ 𝓤 _) u (λ r e.
+      returned W ! tt g.ended (g.clauses 𝓤 H A mem run) to (λ (r : Listed). itemTold r ≡ told) (λ r ws. id⊢ 𝓤 _) u (λ r e.
       -- [the result; the token; what the reader owns; _3; …; _2; …; _1; …; room for _0; …]
       peeks ! S.the-row (Is S.the-row) (shows 𝓤 H A S.the-row) r (u ∷ []) (λ is.
       land ! (from ! (stop !)) (init ! 9 refl (EL.lawful S.the-type S′.the-laws 𝓤 H A W tt .typed r _ is .0)) $

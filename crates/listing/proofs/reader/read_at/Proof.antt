@@ -38,7 +38,7 @@ use denote.Triple.Entry.{Vals, onEntry}
 use denote.Triple.Spec.{Meets, tripleOf}
 use denote.Triple.Table.{entered, cited}
 use denote.Triple.Walked.{says, Stays, stay-none, stay-none-slice, walkOf, goes-none, goes-none-slice, ends-at, walked, walk-meets}
-use Rattle.listing.specs.Listing.{ListedTold, numbered, listedAt}
+use Rattle.listing.specs.Listing.{ListedTold, itemTold, listedAt}
 use Rattle.listing.specs.declared.Listed.{Listed}
 use Rattle.listing.specs.declared.reader.Reader.{Reader}
 use Rattle.listing.proofs.Returned.{returned}
@@ -116,7 +116,7 @@ module _ {M : Type 1} (𝓤 : URA M) (H : Heap 𝓤) (A : Atoms 𝓤) (W : Given
       frame ! $ fjoin ! $ done !
 
   -- the end: the callee's result, with the fact of its contract, is the result
-  exits : (r : Listed) (u : Val) → numbered r ≡ told
+  exits : (r : Listed) (u : Val) → itemTold r ≡ told
       → ent 𝓤 (⋆ 𝓤 H A (‵ (S.the-row .own r (u ∷ [])) ∷ (‵ (flft κ q) ⊛ ‵ ftrue) ∷ ‵ Own ∷ [])) (Post u)
   exits r u e =
       qed W (‵ (S.the-row .own r (u ∷ [])) ∷ (‵ (flft κ q) ⊛ ‵ ftrue) ∷ ‵ Own ∷ []) ∵
@@ -142,7 +142,7 @@ module _ {M : Type 1} (𝓤 : URA M) (H : Heap 𝓤) (A : Atoms 𝓤) (W : Given
       -- _0 = next_item(_3)
       move ! (8 ∷ []) $ use1 W (raw (NextItem 𝓤 H A mem run .pre to) ⊛ ‵ Own) together $ split ! $
       calls-at ! fm (NextItem 𝓤 H A mem run) known to (and-then ! (load ! (from ! (stop !)) (look ! 2 refl)) (no-more !)) (λ u.
-      returned W ! tt g.ended (g.clauses 𝓤 H A mem run) to (λ (r : Listed). numbered r ≡ told) (λ r ws. id⊢ 𝓤 _) u (λ r e.
+      returned W ! tt g.ended (g.clauses 𝓤 H A mem run) to (λ (r : Listed). itemTold r ≡ told) (λ r ws. id⊢ 𝓤 _) u (λ r e.
       -- [the result; the token; what the parameters own; _3; …; _2; …; _1; …; room for _0; …]
       peeks ! S.the-row (Is S.the-row) (shows 𝓤 H A S.the-row) r (u ∷ []) (λ is-r.
       land ! (from ! (stop !)) (init ! 9 refl (EL.lawful S.the-type S′.the-laws 𝓤 H A W tt .typed r _ is-r .0)) $

@@ -41,7 +41,7 @@ use denote.Triple.Entry.{onEntry}
 use denote.Triple.Spec.{Meets, tripleOf}
 use denote.Triple.Table.{entered, cited}
 use denote.Triple.Walked.{says, Stays, stay-none, walkOf, goes-none, ends-at, walked, walk-meets}
-use Rattle.listing.specs.Listing.{ListedTold, numbered, listedAt}
+use Rattle.listing.specs.Listing.{ListedTold, itemTold, listedAt}
 use Rattle.listing.specs.Reading.{placeAfter}
 use Rattle.listing.specs.declared.Listed.{Listed}
 use Rattle.listing.specs.declared.reader.Reader.{Reader}
@@ -152,7 +152,7 @@ module _ {M : Type 1} (𝓤 : URA M) (H : Heap 𝓤) (A : Atoms 𝓤) (W : Given
       (is, (LL.owes (T.the-type α) (T′.the-laws α) (moved n) (LL.owed (T.the-type α) (T′.the-laws α) d _ is-d .0, ((refl, fits), tt)), tt))
 
   -- the end: what the reader owns goes back with the parameter, and makes the result with the item and the next place
-  exits : (item : Listed) (n : ℕ) → Is S.the-row item (low item ∷ []) → n < 2 ^ 64 → numbered item ≡ told → n ≡ placeAfter told (d .at)
+  exits : (item : Listed) (n : ℕ) → Is S.the-row item (low item ∷ []) → n < 2 ^ 64 → itemTold item ≡ told → n ≡ placeAfter told (d .at)
       → ent 𝓤 (⋆ 𝓤 H A ((‵ (flft κ q) ⊛ ‵ ftrue) ∷ ‵ Own ∷ [])) (Post (val (answer item n)))
   exits item n is fits e e′ =
       qed W ((‵ (flft κ q) ⊛ ‵ ftrue) ∷ ‵ Own ∷ []) ∵
@@ -188,7 +188,7 @@ module _ {M : Type 1} (𝓤 : URA M) (H : Heap 𝓤) (A : Atoms 𝓤) (W : Given
       move ! (16 ∷ []) $ use1 W (raw (NextItem 𝓤 H A mem run .pre to-next) ⊛ ‵ Own) lent $ split ! $
       calls-at ! fm (NextItem 𝓤 H A mem run) known-next to-next (and-then ! (load ! (from ! (stop !)) (look ! 8 refl)) (no-more !)) (λ u.
       returned W ! tt g.ended (g.clauses 𝓤 H A mem run) to-next
-      (λ (item : Listed). numbered item ≡ told) (λ item ws. id⊢ 𝓤 _) u (λ item e.
+      (λ (item : Listed). itemTold item ≡ told) (λ item ws. id⊢ 𝓤 _) u (λ item e.
       -- [the item; the token; what the reader owns; _7 3; …; _0 17; …]
       peeks ! S.the-row (Is S.the-row) (shows 𝓤 H A S.the-row) item (u ∷ []) (λ is.
       land ! (from ! (stop !)) (init ! 13 refl (EL.lawful S.the-type S′.the-laws 𝓤 H A W tt .typed item _ is .0)) $
@@ -200,7 +200,7 @@ module _ {M : Type 1} (𝓤 : URA M) (H : Heap 𝓤) (A : Atoms 𝓤) (W : Given
       calls-at ! fm (PlaceAfter 𝓤 H A mem run) known-place (to-place item u)
       (and-then ! (load ! (from ! (stop !)) (look ! 13 refl)) (and-then ! (load ! (from ! (stop !)) (look ! 7 refl)) (no-more !))) (λ u′.
       returned W ! tt h.ended (h.clauses 𝓤 H A mem run) (to-place item u)
-      (λ (n : ℕ). n ≡ placeAfter (numbered item) (d .at)) (λ n ws. id⊢ 𝓤 _) u′ (λ n e′.
+      (λ (n : ℕ). n ≡ placeAfter (itemTold item) (d .at)) (λ n ws. id⊢ 𝓤 _) u′ (λ n e′.
       -- [the next place; no token; the token; what the reader owns; _7 4; …; _0 18; …]
       peeks ! usize (Is usize) (shows 𝓤 H A usize) n (u′ ∷ []) (λ is-n. drop ! $ drop ! $
       land ! (from ! (stop !)) (init ! 10 refl (uint-lawful 𝓤 H A W w64 .typed n _ is-n .0)) $

@@ -2,7 +2,8 @@
 use Prim.Native.Nat.{_-_}
 use native.Mathlib.Omega.{arith}
 use lib.ListN.{length}
-use Rattle.pools.specs.Sizes.{maxCode, limits, numbered}
+use Rattle.pools.specs.Sizes.{maxCode, limits}
+use Rattle.pools.specs.Answers.{limitsTold}
 use Rattle.pools.proofs.LimitLaws.{Passed, none-yet, one-more, at-exceeded, past-last}
 use Rattle.pools.proofs.limits.check_limits.Statement.{statement}
 use Rattle.pools.proofs.limits.check_limits.Tie as tie
@@ -23,7 +24,7 @@ array-copy-out-limit : tie.Need-array-copy-out-limit Inv-loop μ-loop
 array-copy-out-limit c = omega arith
 
 returns : tie.Need-returns Inv-loop μ-loop
-unfolding numbered limits maxCode
+unfolding limitsTold limits maxCode
 returns c = at-exceeded (c .before .before .before .loop .inv) _ (omega arith) (c .if1 .taken)
 
 add-at : tie.Need-add-at Inv-loop μ-loop
@@ -36,7 +37,7 @@ loop-again : tie.Need-loop-again Inv-loop μ-loop
 loop-again c = one-more (c .before .before .before .loop .inv) _ (omega arith) (c .if1 .left)
 
 returns-2 : tie.Need-returns-2 Inv-loop μ-loop
-unfolding numbered limits maxCode
+unfolding limitsTold limits maxCode
 returns-2 c = past-last (c .before .loop .inv) (omega arith)
 
 pub check-limits-spec : {M : Type 1} → statement M

@@ -3,7 +3,8 @@ use mathlib.Core.Path.{sym, _∙_}
 use Prim.Native.Nat.{_-_}
 use native.Mathlib.Omega.{arith}
 use Rattle.pools.specs.Pools.{chainAt, chainsIn}
-use Rattle.pools.specs.Tables.{numbered, badChain}
+use Rattle.pools.specs.Tables.{badChain}
+use Rattle.pools.specs.Answers.{tablesTold}
 use Rattle.pools.specs.Told.{badTable}
 use Rattle.pools.proofs.First.{Passed, none-yet, one-more, at-bad, past-last}
 use Rattle.pools.proofs.tables.check_chains.Statement.{statement}
@@ -23,7 +24,7 @@ chain-is-bad-requires : tie.Need-chain-is-bad-requires Inv-loop μ-loop
 chain-is-bad-requires c κs = omega arith
 
 returns : tie.Need-returns Inv-loop μ-loop
-unfolding numbered
+unfolding tablesTold
 returns c =
     at-bad (c .before .before .before .loop .inv) (omega arith)
     (sym (c .before .chain-is-bad .ensures) ∙ c .if1 .taken)
@@ -40,7 +41,7 @@ loop-again c =
     (sym (c .before .chain-is-bad .ensures) ∙ c .if1 .left)
 
 returns-2 : tie.Need-returns-2 Inv-loop μ-loop
-unfolding numbered
+unfolding tablesTold
 returns-2 c = past-last (c .before .loop .inv) (omega arith)
 
 pub check-chains-spec : {M : Type 1} → statement M

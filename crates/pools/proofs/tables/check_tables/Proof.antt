@@ -3,7 +3,7 @@ use mathlib.Core.Path.{sym, ap, _∙_}
 use native.Mathlib.Omega.{arith}
 use borrow.Author.Needs.{needs}
 use Rattle.pools.specs.Pools.{chainWords, stepWords, switchWords, caseWords}
-use Rattle.pools.specs.Tables.{numbered}
+use Rattle.pools.specs.Answers.{tablesTold}
 use Rattle.pools.proofs.TableLaws.{left-over, none-over}
 use Rattle.pools.proofs.TableLaws.{ragged-chains, ragged-steps, ragged-switches, ragged-cases}
 use Rattle.pools.proofs.TableLaws.{NoneRagged, in-chains, in-steps, in-switches}
@@ -11,21 +11,21 @@ use Rattle.pools.proofs.tables.check_tables.Statement.{statement}
 use Rattle.pools.proofs.tables.check_tables.Tie as tie
 
 returns : tie.Need-returns
-unfolding numbered
+unfolding tablesTold
 returns c = ragged-chains _ _ _ _ _ (left-over chainWords _ (omega arith))
 
 returns-2 : tie.Need-returns-2
-unfolding numbered
+unfolding tablesTold
 returns-2 c = ragged-steps _ _ _ _ _ (none-over chainWords _ (omega arith)) (left-over stepWords _ (omega arith))
 
 returns-3 : tie.Need-returns-3
-unfolding numbered
+unfolding tablesTold
 returns-3 c =
     ragged-switches _ _ _ _ _
     (none-over chainWords _ (omega arith)) (none-over stepWords _ (omega arith)) (left-over switchWords _ (omega arith))
 
 returns-4 : tie.Need-returns-4
-unfolding numbered
+unfolding tablesTold
 returns-4 c =
     ragged-cases _ _ _ _ _
     (none-over chainWords _ (omega arith)) (none-over stepWords _ (omega arith))
@@ -55,10 +55,10 @@ enum-told-2 : tie.Need-enum-told-2
 enum-told-2 c = search needs
 
 returns-5 : tie.Need-returns-5
-unfolding numbered
+unfolding tablesTold
 returns-5 c =
     in-chains _ _ _ _ _ (none-ragged (c .before .before .before)) (c .before .before .check-chains .ensures)
-    (omega (arith, ap (λ r. numbered r .kind) (c .enum-told2 .given .1)))
+    (omega (arith, ap (λ r. tablesTold r .kind) (c .enum-told2 .given .1)))
 
 check-steps-requires : tie.Need-check-steps-requires
 check-steps-requires c κs = search needs
@@ -70,24 +70,24 @@ enum-told-4 : tie.Need-enum-told-4
 enum-told-4 c = search needs
 
 returns-6 : tie.Need-returns-6
-unfolding numbered
+unfolding tablesTold
 returns-6 c =
     let chains = c .before .before .before in
     in-steps _ _ _ _ _ (none-ragged (chains .before .before .before))
-    (sym (ap numbered (chains .enum-told .given .1)) ∙ chains .before .before .check-chains .ensures)
-    (c .before .before .check-steps .ensures) (omega (arith, ap (λ r. numbered r .kind) (c .enum-told4 .given .1)))
+    (sym (ap tablesTold (chains .enum-told .given .1)) ∙ chains .before .before .check-chains .ensures)
+    (c .before .before .check-steps .ensures) (omega (arith, ap (λ r. tablesTold r .kind) (c .enum-told4 .given .1)))
 
 check-switches-requires : tie.Need-check-switches-requires
 check-switches-requires c κs = search needs
 
 returns-7 : tie.Need-returns-7
-unfolding numbered
+unfolding tablesTold
 returns-7 c =
     let chains = c .before .before .before .before in
     c .check-switches .ensures
     ∙ in-switches _ _ _ _ _ (none-ragged (chains .before .before .before))
-    (sym (ap numbered (chains .enum-told .given .1)) ∙ chains .before .before .check-chains .ensures)
-    (sym (ap numbered (c .before .enum-told3 .given .1)) ∙ c .before .before .before .check-steps .ensures)
+    (sym (ap tablesTold (chains .enum-told .given .1)) ∙ chains .before .before .check-chains .ensures)
+    (sym (ap tablesTold (c .before .enum-told3 .given .1)) ∙ c .before .before .before .check-steps .ensures)
 
 pub check-tables-spec : {M : Type 1} → statement M
 check-tables-spec =

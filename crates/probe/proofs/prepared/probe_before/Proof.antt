@@ -2,7 +2,7 @@
 use mathlib.Core.Path.{_∙_, ap, sym}
 use borrow.Author.Needs.{needs}
 use Rattle.answer.specs.Answer.{told}
-use Rattle.before.specs.Before.{verdictOf}
+use Rattle.before.specs.Calls.{verdictOf}
 use Rattle.probe.proofs.prepared.probe_before.Statement.{statement}
 use Rattle.probe.proofs.prepared.probe_before.Tie as tie
 

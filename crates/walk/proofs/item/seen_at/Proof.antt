@@ -5,7 +5,7 @@ use native.Mathlib.Omega.{arith}
 use borrow.Author.Needs.{needs}
 use denote.Ref.{now}
 use lib.ListN.{getD}
-use Rattle.words.specs.Seen.{told}
+use Rattle.words.specs.Seen.{seenTold}
 use Rattle.walk.proofs.Parts.{key-slot}
 use Rattle.walk.proofs.item.seen_at.Statement.{statement}
 use Rattle.walk.proofs.item.seen_at.Tie as tie
@@ -33,7 +33,7 @@ returns : tie.Need-returns
 returns c = rw (sym (c .before .before .before .is-key .ensures) ∙ c .before .before .if1 .taken) (c .recall .ensures)
 
 returns-2 : tie.Need-returns-2
-unfolding told
+unfolding seenTold
 returns-2 c = rw (sym (c .before .is-key .ensures) ∙ c .if1 .left)
 
 pub seen-at-spec : {M : Type 1} → statement M

@@ -10,7 +10,7 @@ use Rattle.demand.specs.Chunk.{machine}
 use Rattle.rules.specs.Script.{Script}
 use Rattle.machine.specs.Walk.{seen}
 use Rattle.rules.specs.FromLists.{script}
-use Rattle.words.specs.Seen.{told}
+use Rattle.words.specs.Seen.{seenTold}
 use Rattle.walk.specs.declared.Hand.{Hand}
 use Rattle.walk.specs.Records.{seenStore}
 use Rattle.walk.specs.Turn.{roomSpan, AtItem}
@@ -50,7 +50,7 @@ module _ (p : tie.After-seen-at) where
   abbrev span : Span
   span = roomSpan (start inside .args .room)
 
-  was-seen : told (p .seen-at .result)
+  was-seen : seenTold (p .seen-at .result)
       ≡ seen (machine (S inside) span) (seenStore (S inside) span) (h inside .place) (now (start inside .args .records))
   was-seen = p .seen-at .ensures ∙ seen-so _ _ _ _ _ _ (A inside)
 
@@ -66,13 +66,13 @@ enum-told : tie.Need-enum-told
 enum-told c = search needs
 
 enter-requires : tie.Need-enter-requires
-unfolding told
+unfolding seenTold
 enter-requires c κs =
     let e = c .before .before .before .before .before .before in (
       A e,
       record {
         below-end = here e;
-        unseen = sym (was-seen (c .before .before .before .before)) ∙ ap told (c .before .before .enum-told .given .1);
+        unseen = sym (was-seen (c .before .before .before .before)) ∙ ap seenTold (c .before .before .enum-seenTold .given .1);
       },
     )
 
@@ -108,12 +108,12 @@ same-length-2 : tie.Need-same-length-2
 same-length-2 c = search needs
 
 returns-2 : tie.Need-returns-2
-unfolding told
+unfolding seenTold
 returns-2 c =
     let e = c .before .before .before .before .before .before .before .before .before .before .before .before .before .before in
     let matched = c .before .before .before .before .before .before .before .before .before .before in
     let compared = c .before .before .before .before .before .before .before in
-    dropped-took _ _ _ _ _ _ (A e) (here e) _ (sym (was-seen (matched .before .before)) ∙ ap told (matched .seen .given .1))
+    dropped-took _ _ _ _ _ _ (A e) (here e) _ (sym (was-seen (matched .before .before)) ∙ ap seenTold (matched .seen .given .1))
     (sym (compared .agree .ensures) ∙ c .before .before .before .before .before .before .if2 .taken)
     (c .before .before .before .before .before .drop-item .ensures)
     (c .before .before .take-back .result) (c .before .before .take-back .last .1 .1 .1 .0) (c .before .before .take-back .ensures)
@@ -134,12 +134,12 @@ same-length-5 : tie.Need-same-length-5
 same-length-5 c = search needs
 
 returns-4 : tie.Need-returns-4
-unfolding told
+unfolding seenTold
 returns-4 c =
     let e = c .before .before .before .before .before .before .before .before .before in
     stopped _ _ (h e) _ _
     (clash-turn _ _ _ _ _ _ (A e) (here e) _
-    (sym (was-seen (c .before .before .before .before .before .before .before)) ∙ ap told (c .before .before .before .before .before .seen .given .1))
+    (sym (was-seen (c .before .before .before .before .before .before .before)) ∙ ap seenTold (c .before .before .before .before .before .seen .given .1))
     (sym (c .before .before .agree .ensures) ∙ c .before .if2 .left))
 
 pub take-item-spec : {M : Type 1} → statement M

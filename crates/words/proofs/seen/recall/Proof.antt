@@ -1,6 +1,6 @@
 -- `words::seen::recall` meets its contract: 0 in the first word says that nothing was seen.
 use borrow.Author.Tests.{eq-eqb, ne-eqb}
-use Rattle.words.specs.Seen.{told, seenAt}
+use Rattle.words.specs.Seen.{seenTold, seenAt}
 use borrow.Author.Needs.{needs}
 use Rattle.words.proofs.seen.recall.Statement.{statement}
 use Rattle.words.proofs.seen.recall.Tie as tie
@@ -12,7 +12,7 @@ shared-slice-read-kept : tie.Need-shared-slice-read-kept
 shared-slice-read-kept c = search needs
 
 returns : tie.Need-returns
-unfolding told seenAt
+unfolding seenTold seenAt
 returns c = rw (eq-eqb _ 0 (c .if1 .taken))
 
 sub-t6 : tie.Need-sub-t6
@@ -37,7 +37,7 @@ shared-slice-read-t14 : tie.Need-shared-slice-read-t14
 shared-slice-read-t14 c = search needs
 
 returns-2 : tie.Need-returns-2
-unfolding told seenAt
+unfolding seenTold seenAt
 returns-2 c = rw (ne-eqb _ 0 (c .before .before .if1 .left))
 
 pub recall-spec : {M : Type 1} → statement M
