@@ -15,7 +15,7 @@ use Rattle.answer.specs.declared.Answer.{Answer}
 use Rattle.answer.specs.declared.Depths.{Depths}
 use Rattle.answer.specs.Depths.{zeros, Item}
 use Rattle.code.specs.Width.{widthOf}
-use Rattle.listing.specs.Listing.{Start}
+use Rattle.listing.specs.Starts.{Start}
 use Rattle.machine.specs.Lists.{_∈_, NoRepeats, sumOf}
 use Rattle.rules.specs.Edges.{after, edges, degree, targets}
 use Rattle.rules.specs.Needs.{iteratorsNeeded, handlersNeeded, lacks, operandsNeeded, Able}

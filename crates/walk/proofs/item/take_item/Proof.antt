@@ -72,7 +72,7 @@ enter-requires c κs =
       A e,
       record {
         below-end = here e;
-        unseen = sym (was-seen (c .before .before .before .before)) ∙ ap seenTold (c .before .before .enum-seenTold .given .1);
+        unseen = sym (was-seen (c .before .before .before .before)) ∙ ap seenTold (c .before .before .enum-told .given .1);
       },
     )
 
