@@ -16,37 +16,51 @@ use Rattle.verify.proofs.verify.Tie as tie
 
 -- past everything before the chunks
 module _ (b : tie.After-begin) where
+  abbrev start : tie.Start
+  start =
+      b .before .before .before .before .before .before .before .before .before .before .before .before .before .before .before .before .before .before .before .before
+
   abbrev spans : List Span
-  spans = spansOf (now (b .before .before .before .before .before .before .before .before .before .before .before .before .before .before .before .before .before .before .before .before .args .entries)) (now (b .before .before .before .before .before .before .before .before .before .before .before .before .before .before .before .before .before .before .before .before .args .ends)) (now (b .before .before .before .before .before .before .before .before .before .before .before .before .before .before .before .before .before .before .before .before .args .declared))
+  spans = spansOf (now (start .args .entries)) (now (start .args .ends)) (now (start .args .declared))
 
   counted : b .before .before .before .before .least .result ≡ length spans
-  counted = b .before .before .before .before .least .ensures ∙ sym (span-count (now (b .before .before .before .before .before .before .before .before .before .before .before .before .before .before .before .before .before .before .before .before .args .entries)) (now (b .before .before .before .before .before .before .before .before .before .before .before .before .before .before .before .before .before .before .before .before .args .ends)) (now (b .before .before .before .before .before .before .before .before .before .before .before .before .before .before .before .before .before .before .before .before .args .declared)))
+  counted =
+      b .before .before .before .before .least .ensures
+      ∙ sym (span-count (now (start .args .entries)) (now (start .args .ends)) (now (start .args .declared)))
 
   abbrev I : Input
   I = record {
     script = record {
-      code = now (b .before .before .before .before .before .before .before .before .before .before .before .before .before .before .before .before .before .before .before .before .args .code);
+      code = now (start .args .code);
       pools = record {
-        constants = now (b .before .before .before .before .before .before .before .before .before .before .before .before .before .before .before .before .before .before .before .before .args .constants);
-        names = now (b .before .before .before .before .before .before .before .before .before .before .before .before .before .before .before .before .before .before .before .before .args .names);
-        tokens = b .before .before .before .before .before .before .before .before .before .before .before .before .before .before .before .before .before .before .before .before .args .tokens;
-        opAssignments = b .before .before .before .before .before .before .before .before .before .before .before .before .before .before .before .before .before .before .before .before .args .op-assignments;
-        chains = now (b .before .before .before .before .before .before .before .before .before .before .before .before .before .before .before .before .before .before .before .before .args .chains);
-        steps = now (b .before .before .before .before .before .before .before .before .before .before .before .before .before .before .before .before .before .before .before .before .args .steps);
-        switches = now (b .before .before .before .before .before .before .before .before .before .before .before .before .before .before .before .before .before .before .before .before .args .switches);
-        cases = now (b .before .before .before .before .before .before .before .before .before .before .before .before .before .before .before .before .before .before .before .before .args .cases);
-        ranges = now (b .before .before .before .before .before .before .before .before .before .before .before .before .before .before .before .before .before .before .before .before .args .ranges);
+        constants = now (start .args .constants);
+        names = now (start .args .names);
+        tokens = start .args .tokens;
+        opAssignments = start .args .op-assignments;
+        chains = now (start .args .chains);
+        steps = now (start .args .steps);
+        switches = now (start .args .switches);
+        cases = now (start .args .cases);
+        ranges = now (start .args .ranges);
       };
-      rights = b .before .before .before .before .before .before .before .before .before .before .before .before .before .before .before .before .before .before .before .before .args .rights;
+      rights = start .args .rights;
     };
-    functions = b .before .before .before .before .before .before .before .before .before .before .before .before .before .before .before .before .before .before .before .before .args .functions;
+    functions = start .args .functions;
     chunks = length spans;
   }
 
   abbrev lent : Memory
-  lent = record { marks = now (b .before .before .before .before .before .before .before .before .before .before .before .before .before .before .before .before .before .before .before .before .args .marks); heights = now (b .before .before .before .before .before .before .before .before .before .before .before .before .before .before .before .before .before .before .before .before .args .heights); records = now (b .before .before .before .before .before .before .before .before .before .before .before .before .before .before .before .before .before .before .before .before .args .records); work = now (b .before .before .before .before .before .before .before .before .before .before .before .before .before .before .before .before .before .before .before .before .args .work) }
+  lent = record {
+    marks = now (start .args .marks);
+    heights = now (start .args .heights);
+    records = now (start .args .records);
+    work = now (start .args .work);
+  }
 
-  begun : Begins I (length (lent .heights)) (lent .marks) (lent .records) (lent .work) (b .begin .result) (b .begin .last .1 .1 .1 .1 .1 .1 .1 .1 .1 .1 .1 .1 .1 .1 .0) (b .begin .last .1 .1 .1 .1 .1 .1 .1 .1 .1 .1 .1 .1 .1 .1 .1 .0) (b .begin .last .1 .1 .1 .1 .1 .1 .1 .1 .1 .1 .1 .1 .1 .1 .1 .1 .0)
+  begun : Begins I (length (lent .heights)) (lent .marks) (lent .records) (lent .work) (b .begin .result)
+      (b .begin .last .1 .1 .1 .1 .1 .1 .1 .1 .1 .1 .1 .1 .1 .1 .0)
+      (b .begin .last .1 .1 .1 .1 .1 .1 .1 .1 .1 .1 .1 .1 .1 .1 .1 .0)
+      (b .begin .last .1 .1 .1 .1 .1 .1 .1 .1 .1 .1 .1 .1 .1 .1 .1 .1 .0)
   begun = rw counted at (b .begin .ensures)
 
 least-requires : tie.Need-least-requires
@@ -68,7 +82,9 @@ same-length-3 : tie.Need-same-length-3
 same-length-3 c = search needs
 
 returns : tie.Need-returns
-returns c = let b = c .before .before .before .before .before .before .before .before .before in first-ended (I b) (spans b) (lent b) (begun b) (c .before .state .given .1)
+returns c =
+    let b = c .before .before .before .before .before .before .before .before .before in
+    first-ended (I b) (spans b) (lent b) (begun b) (c .before .state .given .1)
 
 enum-told : tie.Need-enum-told
 enum-told c = search needs
@@ -76,13 +92,15 @@ enum-told c = search needs
 judge-spans-requires : tie.Need-judge-spans-requires
 judge-spans-requires c κs =
     let b = c .before .before .before .before .before .before .before .before .before .before .before .before in
-    all-ask (I b) (spans b) (lent b) _ _ _ _ _ _ (first-goes (I b) (spans b) (lent b) (begun b) (c .before .before .before .before .enum-told .given .1)) refl
+    all-ask (I b) (spans b) (lent b) _ _ _ _ _ _
+    (first-goes (I b) (spans b) (lent b) (begun b) (c .before .before .before .before .enum-told .given .1)) refl
 
 advance-requires : tie.Need-advance-requires
 advance-requires c κs =
     let b = c .before .before .before .before .before .before .before .before .before .before .before .before .before .before .before .before .before .before .before .before in
     let going = c .before .before .before .before .before .before .before .before .before .before .before .before .enum-told .given .1 in
-    all-fit (I b) (spans b) (lent b) _ _ _ _ _ _ (first-goes (I b) (spans b) (lent b) (begun b) going) (c .before .before .before .before .before .before .before .judge-spans .ensures) refl going
+    all-fit (I b) (spans b) (lent b) _ _ _ _ _ _ (first-goes (I b) (spans b) (lent b) (begun b) going)
+    (c .before .before .before .before .before .before .before .judge-spans .ensures) refl going
 
 finish-requires : tie.Need-finish-requires
 finish-requires c κs = search needs
@@ -103,7 +121,8 @@ returns-2 : tie.Need-returns-2
 returns-2 c =
     let b = c .before .before .before .before .before .before .before .before .before .before .before .before .before .before .before .before .before .before .before .before .before .before .before .before in
     let going = c .before .before .before .before .before .before .before .before .before .before .before .before .before .before .before .before .enum-told .given .1 in
-    all-judged (I b) (spans b) (lent b) _ _ _ _ _ _ (first-goes (I b) (spans b) (lent b) (begun b) going) (c .before .before .before .before .before .before .before .before .before .before .before .judge-spans .ensures) refl going
+    all-judged (I b) (spans b) (lent b) _ _ _ _ _ _ (first-goes (I b) (spans b) (lent b) (begun b) going)
+    (c .before .before .before .before .before .before .before .before .before .before .before .judge-spans .ensures) refl going
     (c .before .before .before .advance .ensures) (c .finish .ensures)
 
 pub verify-spec : {M : Type 1} → statement M

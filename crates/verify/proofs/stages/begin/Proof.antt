@@ -32,7 +32,9 @@ same-length-3 c = search needs
 returns : tie.Need-returns
 returns c =
     let refusal = c .before .before .before .before .before .before .before .before .before .verdict-of .ensures in
-    begins-zeroed _ _ _ (c .before .before .before .before .before .before .before .before .before .before .before .before .before .before .before .before-chunks .ensures) (c .before .before .before .before .clear-both .ensures) (c .before .before .before .before .before .before .before .before .before .before .before .outcome .given .1) refusal
+    let tested = c .before .before .before .before .before .before .before .before .before .before .before in
+    begins-zeroed _ _ _ (tested .before .before .before .before .before-chunks .ensures) (c .before .before .before .before .clear-both .ensures)
+    (tested .outcome .given .1) refusal
     (omega (arith, ap (λ (v : Verdict). v .kind) refusal, c .before .before .before .before .before .before .before .if1 .taken))
 
 same-length-4 : tie.Need-same-length-4
@@ -41,7 +43,8 @@ same-length-4 c = search needs
 returns-2 : tie.Need-returns-2
 returns-2 c =
     let refusal = c .before .before .verdict-of .ensures in
-    begins-untouched _ _ _ (c .before .before .before .before .before .before .before .before .before-chunks .ensures) (c .before .before .before .before .outcome .given .1) refusal
+    begins-untouched _ _ _ (c .before .before .before .before .before .before .before .before .before-chunks .ensures)
+    (c .before .before .before .before .outcome .given .1) refusal
     (omega (arith, ap (λ (v : Verdict). v .kind) refusal, c .if1 .left))
 
 enum-told : tie.Need-enum-told
@@ -52,8 +55,10 @@ clear-both-requires-2 c κs = search needs
 
 count-requires : tie.Need-count-requires
 count-requires c κs =
-    let start = c .before .before .before .before .before .before .before .before .before .before .before .before .before .before .before .before .before .before .before .before .before .before .before .before .before .args in
-    marks-fit _ (start .room) (now (start .marks)) (c .before .before .before .before .before .before .before .before .before .before .before .before .before-chunks .ensures) (c .before .before .before .before .before .before .before .before .enum-told .given .1)
+    let told = c .before .before .before .before .before .before .before .before in
+    let tested = told .before .before .before .before in
+    let start = tested .before .before .before .before .before .before .before .before .before .before .before .before .before .args in
+    marks-fit _ (start .room) (now (start .marks)) (tested .before-chunks .ensures) (told .enum-told .given .1)
 
 same-length-5 : tie.Need-same-length-5
 same-length-5 c = search needs
@@ -65,7 +70,10 @@ same-length-7 : tie.Need-same-length-7
 same-length-7 c = search needs
 
 returns-3 : tie.Need-returns-3
-returns-3 c = begins-going _ _ _ (c .before .before .before .before .before .before .before .before .before .before .before .before .before .before-chunks .ensures) (c .before .before .before .before .before .before .clear-both2 .ensures) (c .before .before .before .before .before .before .before .before .before .enum-told .given .1) (c .count .ensures)
+returns-3 c =
+    let told = c .before .before .before .before .before .before .before .before .before in
+    begins-going _ _ _ (told .before .before .before .before .before-chunks .ensures) (c .before .before .before .before .before .before .clear-both2 .ensures)
+    (told .enum-told .given .1) (c .count .ensures)
 
 pub begin-spec : {M : Type 1} → statement M
 begin-spec =

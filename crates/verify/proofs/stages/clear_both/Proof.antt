@@ -18,7 +18,12 @@ same-length-2 : tie.Need-same-length-2
 same-length-2 c = search needs
 
 returns : tie.Need-returns
-returns c = record { records-zero = all-cleared (now (c .before .before .before .before .before .before .before .before .before .before .args .records)) (c .before .before .before .before .before .before .clear-first .ensures); work-zero = all-cleared (now (c .before .before .before .before .before .before .before .before .before .before .args .work)) (c .before .before .clear-first2 .ensures) }
+returns c =
+    let start = c .before .before .before .before .before .before .before .before .before .before in
+    record {
+      records-zero = all-cleared (now (start .args .records)) (c .before .before .before .before .before .before .clear-first .ensures);
+      work-zero = all-cleared (now (start .args .work)) (c .before .before .clear-first2 .ensures);
+    }
 
 pub clear-both-spec : {M : Type 1} → statement M
 clear-both-spec =

@@ -1,5 +1,6 @@
 -- `walk::item::enter` meets its contract: its rule, the tests of its jumps, and its edges.
 use mathlib.Core.Path.{_≡_, sym, ap, _∙_, subst}
+use Prim.Native.Nat.{ℕ}
 use native.Mathlib.Omega.{arith}
 use borrow.Author.Needs.{needs}
 use denote.Ref.{now}
@@ -27,26 +28,34 @@ opening p = p .before .before .before .before .before .before .before .before .b
 
 -- where the rule gives edges: these, and what leaving the instruction builds on
 module _ (p : tie.After-ruling2) where
+  abbrev asked : tie.Start
+  asked = opening (p .before .before .before .before)
+
   abbrev S : Script
   S =
-      script (opening (p .before .before .before .before) .args .rights) (now (opening (p .before .before .before .before) .args .names)) (now (opening (p .before .before .before .before) .args .chains))
-      (now (opening (p .before .before .before .before) .args .steps)) (now (opening (p .before .before .before .before) .args .switches)) (now (opening (p .before .before .before .before) .args .cases))
-      (now (opening (p .before .before .before .before) .args .ranges)) (now (opening (p .before .before .before .before) .args .code))
+      script (asked .args .rights) (now (asked .args .names)) (now (asked .args .chains)) (now (asked .args .steps))
+      (now (asked .args .switches)) (now (asked .args .cases)) (now (asked .args .ranges)) (now (asked .args .code))
 
   abbrev h : Hand
-  h = opening (p .before .before .before .before) .args .hand
+  h = asked .args .hand
 
-  gives : ruled S (roomSpan (opening (p .before .before .before .before) .args .room)) (h .place) (h .depths) ≡ Gives (p .ruling2 .given .0 .0)
+  gives : ruled S (roomSpan (asked .args .room)) (h .place) (h .depths) ≡ Gives (p .ruling2 .given .0 .0)
   gives = sym (p .before .before .rule-of .ensures _ _ _ _ _) ∙ p .ruling2 .given .1
 
   these : p .ruling2 .given .0 .0 ≡ edgesOf S (h .place) (h .depths)
   these = given-edges _ _ _ _ gives
 
-  leaving : RoomToLeave (opening (p .before .before .before .before) .args .room) h (next S (h .place)) (targets S (h .place)) (now (opening (p .before .before .before .before) .args .records)) (now (opening (p .before .before .before .before) .args .work))
-  leaving = leaves _ _ _ _ _ _ (opening (p .before .before .before .before) .pre .0) (opening (p .before .before .before .before) .pre .1) (omega (arith, opening (p .before .before .before .before) .good .1 .1 .1 .1 .1 .1 .1 .1 .1 .1 .1 .1 .0))
+  abbrev Room-before : ℕ → Type 0
+  Room-before place =
+      RoomToLeave (asked .args .room) h place (targets S (h .place)) (now (asked .args .records)) (now (asked .args .work))
 
-  room-left : RoomToLeave (opening (p .before .before .before .before) .args .room) h (p .ruling2 .given .0 .0 .next) (targets S (h .place)) (now (opening (p .before .before .before .before) .args .records)) (now (opening (p .before .before .before .before) .args .work))
-  room-left = subst (λ (e : Edges). RoomToLeave (opening (p .before .before .before .before) .args .room) h (e .next) (targets S (h .place)) (now (opening (p .before .before .before .before) .args .records)) (now (opening (p .before .before .before .before) .args .work))) (sym these) leaving
+  leaving : Room-before (next S (h .place))
+  leaving =
+      leaves _ _ _ _ _ _ (asked .pre .0) (asked .pre .1)
+      (omega (arith, asked .good .1 .1 .1 .1 .1 .1 .1 .1 .1 .1 .1 .1 .0))
+
+  room-left : Room-before (p .ruling2 .given .0 .0 .next)
+  room-left = subst (λ (e : Edges). Room-before (e .next)) (sym these) leaving
 
 cast-at : tie.Need-cast-at
 cast-at c = search needs

@@ -23,7 +23,19 @@ enter-item-requires : tie.Need-enter-item-requires
 enter-item-requires c κs = search needs
 
 fall-to-requires : tie.Need-fall-to-requires
-fall-to-requires c κs = (keys-there _ _ (start (c .before .before) .args .edges) _ _ _ (start (c .before .before) .pre .1 .1 .1) (c .before .before .before .before .before .before .before .before .before .before .note-at .ensures) (c .before .before .before .before .before .push-jumps .ensures) (c .before .before .enter-item .ensures), (still-rises _ _ (start (c .before .before) .args .edges) _ _ _ (start (c .before .before) .pre .1 .1 .1) (c .before .before .before .before .before .before .before .before .before .before .note-at .ensures) (c .before .before .before .before .before .push-jumps .ensures) (c .before .before .enter-item .ensures), along _ _ (start (c .before .before) .args .edges) _ _ _ (start (c .before .before) .pre .1 .1 .1) (c .before .before .before .before .before .before .before .before .before .before .note-at .ensures) (c .before .before .before .before .before .push-jumps .ensures) (c .before .before .enter-item .ensures)))
+fall-to-requires c κs =
+    let e = c .before .before in
+    let edges = start e .args .edges in
+    let room = start e .pre .1 .1 .1 in
+    let noted = e .before .before .before .before .before .before .before .before .note-at .ensures in
+    let pushed = e .before .before .before .push-jumps .ensures in
+    let entered = e .enter-item .ensures in (
+      keys-there _ _ edges _ _ _ room noted pushed entered,
+      (
+        still-rises _ _ edges _ _ _ room noted pushed entered,
+        along _ _ edges _ _ _ room noted pushed entered,
+      ),
+    )
 
 same-length : tie.Need-same-length
 same-length c = search needs
@@ -32,10 +44,32 @@ same-length-2 : tie.Need-same-length-2
 same-length-2 c = search needs
 
 returns : tie.Need-returns
-returns c = fell _ _ (start (c .before .before .before) .args .edges) _ _ _ (start (c .before .before .before) .pre .1 .1 .1) (c .before .before .before .before .before .before .before .before .before .before .before .note-at .ensures) (c .before .before .before .before .before .before .push-jumps .ensures) (c .before .before .before .enter-item .ensures) (c .fall-to .ensures) (c .before .before .if1 .taken)
+returns c =
+    let e = c .before .before .before in
+    let edges = start e .args .edges in
+    let room = start e .pre .1 .1 .1 in
+    let noted = e .before .before .before .before .before .before .before .before .note-at .ensures in
+    let pushed = e .before .before .before .push-jumps .ensures in
+    let entered = e .enter-item .ensures in
+    fell _ _ edges _ _ _ room noted pushed entered (c .fall-to .ensures) (c .before .before .if1 .taken)
 
 take-back-requires : tie.Need-take-back-requires
-take-back-requires c κs = (keys-there _ _ (start (c .before .before .before) .args .edges) _ _ _ (start (c .before .before .before) .pre .1 .1 .1) (c .before .before .before .before .before .before .before .before .before .before .before .note-at .ensures) (c .before .before .before .before .before .before .push-jumps .ensures) (c .before .before .before .enter-item .ensures), (still-rises _ _ (start (c .before .before .before) .args .edges) _ _ _ (start (c .before .before .before) .pre .1 .1 .1) (c .before .before .before .before .before .before .before .before .before .before .before .note-at .ensures) (c .before .before .before .before .before .before .push-jumps .ensures) (c .before .before .before .enter-item .ensures), (waits-room _ _ (start (c .before .before .before) .args .edges) _ _ _ (start (c .before .before .before) .pre .1 .1 .1) (c .before .before .before .before .before .before .before .before .before .before .before .note-at .ensures) (c .before .before .before .before .before .before .push-jumps .ensures) (c .before .before .before .enter-item .ensures), nothing-above _ _ (start (c .before .before .before) .args .edges) _ _ _ (start (c .before .before .before) .pre .1 .1 .1) (c .before .before .before .before .before .before .before .before .before .before .before .note-at .ensures) (c .before .before .before .before .before .before .push-jumps .ensures) (c .before .before .before .enter-item .ensures))))
+take-back-requires c κs =
+    let e = c .before .before .before in
+    let edges = start e .args .edges in
+    let room = start e .pre .1 .1 .1 in
+    let noted = e .before .before .before .before .before .before .before .before .note-at .ensures in
+    let pushed = e .before .before .before .push-jumps .ensures in
+    let entered = e .enter-item .ensures in (
+      keys-there _ _ edges _ _ _ room noted pushed entered,
+      (
+        still-rises _ _ edges _ _ _ room noted pushed entered,
+        (
+          waits-room _ _ edges _ _ _ room noted pushed entered,
+          nothing-above _ _ edges _ _ _ room noted pushed entered,
+        ),
+      ),
+    )
 
 same-length-3 : tie.Need-same-length-3
 same-length-3 c = search needs
