@@ -5,6 +5,7 @@ ghost use mathlib.Core.Path.{_≡_};
 ghost use Prim.Native.Nat.{_+_, _<_};
 ghost use lib.Dec.{leb};
 ghost use Rattle.code.specs.Layout.{among};
+ghost use Rattle.code.specs.Tags.{bytes};
 ghost use Rattle.code.specs.Width.{widthAt};
 ghost use Rattle.rules.specs.Asks.{qualifiable};
 ghost use Rattle.guards.specs.Guards.{hasWidth, hasName, hasChain, hasSwitch, isThere};
@@ -30,7 +31,7 @@ fn has_width(code: &[u8], at: usize) -> bool
 
 // The tags whose rights go by the flag of a name.
 fn looks_at_name(tag: u8) -> bool
-    ensures { λ r. ⌜ r ≡ among tag qualifiable ⌝ }
+    ensures { λ r. ⌜ r ≡ among tag (bytes qualifiable) ⌝ }
 {
     (tag == tag::LOAD_NAMED)
         | (tag == tag::CALL)
