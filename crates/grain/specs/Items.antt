@@ -5,8 +5,8 @@ use Rattle.listing.specs.Listing.{ListedTold}
 use Rattle.grain.specs.declared.item.Item.{Item}
 
 -- the numbers of an item: each field is one of them, so only one item tells what the listing tells
-abbrev pub toldBy : Item → ListedTold
-toldBy i = record { number = i .kind; at = i .at; tag = i .tag; width = i .width; next = i .next }
+abbrev pub itemNumbers : Item → ListedTold
+itemNumbers i = record { number = i .kind; at = i .at; tag = i .tag; width = i .width; next = i .next }
 
 -- an item that is no instruction
 abbrev pub endingOf : (kind at : ℕ) → Item

@@ -1,7 +1,7 @@
 // The listing for other languages: one instruction at an offset, in numbers.
 ghost use mathlib.Core.Path.{_≡_};
 ghost use Rattle.listing.specs.Listing.{listedAt};
-ghost use Rattle.grain.specs.Items.{toldBy, endingOf};
+ghost use Rattle.grain.specs.Items.{itemNumbers, endingOf};
 use listing::Listed;
 
 // What stands at an offset, by kind: 0 an instruction, 1 the code's end, 2 a byte without a width. What a kind has no use for
@@ -18,7 +18,7 @@ pub struct Item {
 // What stands at an offset of the code, whatever the offset.
 #[no_mangle]
 pub extern "C" fn grain_item_at(code: &[u8], at: usize) -> Item
-    ensures { λ r. ⌜ toldBy r ≡ listedAt (now (code .entry)) at ⌝ }
+    ensures { λ r. ⌜ itemNumbers r ≡ listedAt (now (code .entry)) at ⌝ }
 {
     let listed = listing::item_at(code, at);
     match listed {

@@ -9,13 +9,13 @@ use borrow.Author.Tests.{lt-ltb, le-ltb, leb-true, leb-false}
 use lib.Dec.{leb}
 use Rattle.io.specs.Digits.{glyph, Fewest}
 use Rattle.io.specs.Digits as io
-use Rattle.list.specs.Text.{digit, digits, decimal}
+use Rattle.list.specs.Text.{digit, decimalDigits, decimal}
 
 glyph-digit : (d : ℕ) → d < 10 → glyph d ≡ digit d
 glyph-digit d h = rw (lt-ltb d 10 h)
 
-same-digits : (k most n : ℕ) → Fewest 10 1 n k → n < most → io.digits 10 k n ≡ digits most n
-unfolding digits
+same-digits : (k most n : ℕ) → Fewest 10 1 n k → n < most → io.digits 10 k n ≡ decimalDigits most n
+unfolding decimalDigits
 same-digits zero most n f h = absurd (omega (arith, f .0))
 same-digits (suc k) zero n f h = absurd (omega arith)
 same-digits (suc zero) (suc most) n f h =
@@ -24,7 +24,7 @@ same-digits (suc zero) (suc most) n f h =
 same-digits (suc (suc k)) (suc most) n f h =
     rw (le-ltb n 10 large)
     (ap (λ (l : List ℕ). l ++ (glyph (n % 10) ∷ [])) (same-digits (suc k) most (n / 10) fewer less)
-    ∙ ap (λ (d : ℕ). digits most (n / 10) ++ (d ∷ [])) (glyph-digit (n % 10) (mod-lt n (omega arith))))
+    ∙ ap (λ (d : ℕ). decimalDigits most (n / 10) ++ (d ∷ [])) (glyph-digit (n % 10) (mod-lt n (omega arith))))
   where
     least : 10 ^ suc k ≤ n
     least = let e : suc (suc k) - 1 ≡ suc k = omega arith in rw e at (f .2 (omega arith))

@@ -8,7 +8,7 @@ use lib.Dec.{leb}
 use lib.ListN.{length}
 use Rattle.list.specs.Names.{nameIn, nameOf}
 use Rattle.list.specs.Text.{letters, space}
-use Rattle.list.specs.Words.{firstWord, otherWords, words, word}
+use Rattle.list.specs.Words.{firstWord, otherWords, words, wordAt}
 use Rattle.list.proofs.Tables.{upward, agree}
 
 -- the names of these letters, a space before each
@@ -20,12 +20,12 @@ joined (tag ∷ tags) = space ∷ (nameOf tag ++ joined tags)
 abbrev pub names : List ℕ
 names = joined (upward 0x4f 0x01)
 
-worded : map (λ (tag : ℕ). word tag names) (upward 256 0) ≡ map nameOf (upward 256 0)
+worded : map (λ (tag : ℕ). wordAt tag names) (upward 256 0) ≡ map nameOf (upward 256 0)
 unfolding joined firstWord otherWords words nameIn letters
 worded = refl
 
-pub name-word : (tag : ℕ) → tag < 256 → word tag names ≡ nameOf tag
-name-word tag h = agree (λ (tag : ℕ). word tag names) nameOf 256 worded tag h
+pub name-word : (tag : ℕ) → tag < 256 → wordAt tag names ≡ nameOf tag
+name-word tag h = agree (λ (tag : ℕ). wordAt tag names) nameOf 256 worded tag h
 
 short : map (λ (tag : ℕ). leb (length (nameOf tag)) 20) (upward 256 0) ≡ map (λ (tag : ℕ). true) (upward 256 0)
 unfolding nameIn letters

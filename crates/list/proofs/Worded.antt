@@ -10,7 +10,7 @@ use lib.Dec.{eqb}
 use lib.ListN.{length, take, drop, getD, drop-of-length-le, length-take, length-drop}
 use lib.Seq.{drop-cons, drop-drop}
 use Rattle.list.specs.Text.{space}
-use Rattle.list.specs.Words.{firstWord, otherWords, words, word}
+use Rattle.list.specs.Words.{firstWord, otherWords, words, wordAt}
 
 -- ---- the first word from an offset on
 
@@ -100,5 +100,5 @@ passed-words number i text start h e = let none : number - i ≡ 0 = omega arith
 
 -- the word of a number stands where the first of the words from it on does
 pub word-at : (number : ℕ) (text : List ℕ) (start : ℕ) {end : ℕ} → drop start text ≡ words number text → end ≡ stops text start
-    → take (end - start) (drop start text) ≡ word number text
+    → take (end - start) (drop start text) ≡ wordAt number text
 word-at number text start s e = rw e (word-between text start ∙ ap firstWord s)

@@ -26,8 +26,8 @@ pub record Named : Type 0 where
 abbrev of : Tag → String → Named
 of tag name = record { tag = byte tag; name = name }
 
-abbrev pub named : List Named
-named =
+abbrev pub tagNames : List Named
+tagNames =
     -- width 1
     of UNIT "UNIT" ∷
     of FALSE "FALSE" ∷
@@ -115,4 +115,4 @@ nameIn [] tag = []
 nameIn (this ∷ others) tag = cond (eqb tag (this .tag)) (letters (this .name)) (nameIn others tag)
 
 abbrev pub nameOf : ℕ → List ℕ
-nameOf = nameIn named
+nameOf = nameIn tagNames

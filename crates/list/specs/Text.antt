@@ -24,13 +24,13 @@ abbrev pub digit : ℕ → ℕ
 digit n = 0x30 + n
 
 -- at most so many digits of a number, the last of them last
-unfoldable pub digits : ℕ → ℕ → List ℕ
-digits zero n = []
-digits (suc most) n = cond (ltb n 10) (digit n ∷ []) (digits most (n / 10) ++ (digit (n % 10) ∷ []))
+unfoldable pub decimalDigits : ℕ → ℕ → List ℕ
+decimalDigits zero n = []
+decimalDigits (suc most) n = cond (ltb n 10) (digit n ∷ []) (decimalDigits most (n / 10) ++ (digit (n % 10) ∷ []))
 
 -- all digits of a number: it has no more than itself and one
 unfoldable pub decimal : ℕ → List ℕ
-decimal n = digits (n + 1) n
+decimal n = decimalDigits (n + 1) n
 
 -- a text was put into a line at an offset, up to another: what stood before it stands before it, and what stood behind it
 -- stands behind it

@@ -20,5 +20,5 @@ words zero text = text
 words (suc n) text = words n (otherWords text)
 
 -- the word of a number, counted from 0
-abbrev pub word : ℕ → List ℕ → List ℕ
-word n text = firstWord (words n text)
+abbrev pub wordAt : ℕ → List ℕ → List ℕ
+wordAt n text = firstWord (words n text)

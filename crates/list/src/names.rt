@@ -4,7 +4,7 @@ ghost use Prim.Native.Nat.{_+_, _≤_};
 ghost use lib.ListN.{length, drop};
 ghost use Rattle.list.specs.Names.{nameOf};
 ghost use Rattle.list.specs.Text.{Puts};
-ghost use Rattle.list.specs.Words.{word, words, firstWord};
+ghost use Rattle.list.specs.Words.{wordAt, words, firstWord};
 use crate::text;
 
 // The first space from an offset on, or the text's end.
@@ -41,8 +41,8 @@ fn word_start(text: &[u8], number: usize) -> usize
 
 // The word of a number, among words with a space behind each.
 fn put_word(line: &mut [u8], at: usize, text: &[u8], number: usize) -> usize
-    requires { ⌜ at + length (word number (now text)) ≤ length (now line) ⌝ }
-    ensures { λ r. ⌜ Puts at (word number (now (text .entry))) (now (line .entry)) (now (line .exit)) r ⌝ }
+    requires { ⌜ at + length (wordAt number (now text)) ≤ length (now line) ⌝ }
+    ensures { λ r. ⌜ Puts at (wordAt number (now (text .entry))) (now (line .entry)) (now (line .exit)) r ⌝ }
 {
     let start = word_start(text, number);
     let end = space_from(text, start);

@@ -2,7 +2,7 @@
 use mathlib.Core.Path.{_∙_, ap, sym}
 use borrow.Author.Needs.{needs}
 use Rattle.listing.specs.Listing.{itemTold}
-use Rattle.grain.specs.Items.{toldBy}
+use Rattle.grain.specs.Items.{itemNumbers}
 use Rattle.grain.proofs.item.grain_item_at.Statement.{statement}
 use Rattle.grain.proofs.item.grain_item_at.Tie as tie
 
@@ -34,12 +34,12 @@ returns c = sym (ap itemTold (c .before .before .listed .given .1)) ∙ c .befor
 returns-2 : tie.Need-returns-2
 unfolding itemTold
 returns-2 c =
-    ap toldBy (c .ending .ensures) ∙ sym (ap itemTold (c .before .enum-told .given .1)) ∙ c .before .before .before .item-at .ensures
+    ap itemNumbers (c .ending .ensures) ∙ sym (ap itemTold (c .before .enum-told .given .1)) ∙ c .before .before .before .item-at .ensures
 
 returns-3 : tie.Need-returns-3
 unfolding itemTold
 returns-3 c =
-    ap toldBy (c .ending2 .ensures) ∙ sym (ap itemTold (c .before .before .listed2 .given .1))
+    ap itemNumbers (c .ending2 .ensures) ∙ sym (ap itemTold (c .before .before .listed2 .given .1))
     ∙ c .before .before .before .before .item-at .ensures
 
 pub grain-item-at-spec : {M : Type 1} → statement M
