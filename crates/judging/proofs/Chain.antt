@@ -54,7 +54,7 @@ pub chunk-next : (spans : List Span) (k : ℕ) → k < length spans → drop k s
 chunk-next spans k h = drop-cons spans k _ h
 
 -- one judgement, and after it, where all of its chunks pass, another
-unfoldable andThen : JudgedAll → ((reached taken : ℕ) → (heights : List ℕ) → JudgedAll) → JudgedAll
+unfoldable pub andThen : JudgedAll → ((reached taken : ℕ) → (heights : List ℕ) → JudgedAll) → JudgedAll
 andThen judged more =
     elim (judged .answer) [ Passed reached taken ↦ more reached taken (judged .heights) | Refused chunk a ↦ judged ]
 
