@@ -9,7 +9,7 @@ use native.Mathlib.Omega.{arith}
 use borrow.Author.Tests.{le-leb, lt-leb, ne-eqb, eqb-true, eqb-false}
 use lib.Dec.{eqb}
 use lib.ListN.{length, replicate, length-replicate}
-use Rattle.code.specs.Answers.{found, without, toldAt}
+use Rattle.code.specs.Answers.{found, without, foundAt}
 use Rattle.code.specs.Width.{widthOf, widthAt}
 use Rattle.code.proofs.Widths.{wide, width-there, told-width, told-past, told-byte}
 use Rattle.pools.specs.Told.{Told, fine}
@@ -34,7 +34,7 @@ use Rattle.before.specs.declared.Turn.the-variants.{Next, Done, Refused}
 use Rattle.before.proofs.Tests.{last}
 
 -- a width that is told is more than 0
-pub there : (code : List ℕ) (at w : ℕ) → found w ≡ toldAt code at → 0 < widthAt code at
+pub there : (code : List ℕ) (at w : ℕ) → found w ≡ foundAt code at → 0 < widthAt code at
 there code at w e = rw (told-width widthOf code at e) (wide widthOf code at w e .some)
 
 -- a turn, and what marks hold with it
@@ -50,22 +50,22 @@ module _ (sizes : Sizes) (records : Tables) (code : List ℕ) where
   -- ---- one instruction, from what is told of its width and its indices
 
   module _ (at : ℕ) where
-    pub passed : (w : ℕ) → found w ≡ toldAt code at → fine ≡ checked at → Next (at + w) ≡ turnAt sizes records code at
+    pub passed : (w : ℕ) → found w ≡ foundAt code at → fine ≡ checked at → Next (at + w) ≡ turnAt sizes records code at
     unfolding turnAt unless indicesTest
     passed w e f =
         rw (told-width widthOf code at e, ne-eqb w 0 (λ z. omega (arith, wide widthOf code at w e .some)), ← f)
 
-    pub bad-index : (w index pool : ℕ) → found w ≡ toldAt code at → badRef (into pool index) ≡ checked at
+    pub bad-index : (w index pool : ℕ) → found w ≡ foundAt code at → badRef (into pool index) ≡ checked at
         → Refused (BadIndex at index pool) ≡ turnAt sizes records code at
     unfolding turnAt unless indicesTest
     bad-index w index pool e f =
         rw (told-width widthOf code at e, ne-eqb w 0 (λ z. omega (arith, wide widthOf code at w e .some)), ← f)
 
-    pub code-ends : without 1 ≡ toldAt code at → Done ≡ turnAt sizes records code at
+    pub code-ends : without 1 ≡ foundAt code at → Done ≡ turnAt sizes records code at
     unfolding turnAt unless widthTest
     code-ends e = rw (told-width widthOf code at e, le-leb (length code) at (told-past widthOf code at e))
 
-    pub no-width : (why : ℕ) → 1 < why → without why ≡ toldAt code at
+    pub no-width : (why : ℕ) → 1 < why → without why ≡ foundAt code at
         → Refused (Undecodable at) ≡ turnAt sizes records code at
     unfolding turnAt unless widthTest
     no-width why l e = rw (told-width widthOf code at e, lt-leb (length code) at (told-byte widthOf code at why l e))

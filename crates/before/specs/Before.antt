@@ -36,6 +36,8 @@ first (test ∷ tests) = elim test [ none ↦ first tests | some answer ↦ some
 abbrev pub refusedBy : Told → (Told → Answer) → Test
 refusedBy told answer = cond (eqb (told .kind) 0) none (some (answer told))
 
+-- ---- the tests
+
 -- kind 1: more of something than its limit allows
 unfoldable pub limitsTest : Sizes → Test
 limitsTest sizes = refusedBy (firstExceeded sizes) (λ t. TooLarge (t .p))
@@ -76,20 +78,22 @@ module _ (sizes : counted.Sizes) (records : Tables) (code : List ℕ) where
   codeTest at =
       inTurn (widthAt code) (λ i rest. first (indicesTest i ∷ rest ∷ [])) (widthTest code) (length code) at
 
--- the tests before any store in their order, where so many words of marks and elements of heights are lent
+-- ---- their order
+
+-- before any store, where so many words of marks and elements of heights are lent
 module _ (sizes : Sizes) (chains steps switches cases ranges : List ℕ) (marks heights : ℕ) where
   unfoldable pub earlyTests : Test
   earlyTests =
       first (limitsTest sizes ∷ tablesTest chains steps switches cases ranges ∷
       lentTest (sizes .code / 64 + 1) marks 1 ∷ lentTest (sizes .chunks) heights 2 ∷ [])
 
--- those after the first store
+-- after the first store
 module _ (rights functions : ℕ) (constants : List ℕ) (sizes : counted.Sizes) (records : Tables) (code : List ℕ) where
   unfoldable pub lateTests : Test
   lateTests =
       first (constantsTest rights constants ∷ codeTest sizes records code 0 ∷ functionTest functions rights ∷ [])
 
--- both of an input
+-- of an input
 abbrev pub beforeStores : Input → (marks heights : ℕ) → Test
 beforeStores I marks heights =
     let pools = I .script .pools in

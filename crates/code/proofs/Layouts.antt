@@ -10,7 +10,7 @@ use borrow.Author.Tests.{ne-eqb, lt-leb, leb-true, leb-false}
 use lib.Dec.{eqb, leb, eqb→eq}
 use lib.ListN.{replicate}
 use Rattle.code.specs.Tags.{Row, among, lookUp}
-use Rattle.code.specs.Layout.{Field, target, count8, count16, slot, index, layouts, layout}
+use Rattle.code.specs.Layout.{Field, layouts, layout}
 use Rattle.code.specs.TagLists.{widths}
 use Rattle.code.specs.Width.{widthOf}
 use Rattle.code.proofs.ByTag.{tagsOf, once, row-holds}

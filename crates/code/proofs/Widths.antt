@@ -7,7 +7,7 @@ use native.Mathlib.Omega.{arith}
 use borrow.Author.Tests.{leb-true, leb-false, eqb-true, eqb-false}
 use lib.Dec.{leb, eqb}
 use lib.ListN.{length, getD}
-use Rattle.code.specs.Answers.{Found, found, without, toldBy}
+use Rattle.code.specs.Answers.{Found, found, without, foundBy}
 use Rattle.code.specs.Width.{widthBy}
 
 -- answers of different numbers differ
@@ -29,8 +29,8 @@ module _ (table : ℕ → ℕ) (code : List ℕ) (at : ℕ) where
     cut : at < length code → 0 < table (getD code at 0) → length code < at + table (getD code at 0) → t ≡ without 3
         → Stands t
 
-  pub stands : Stands (toldBy table code at)
-  unfolding toldBy
+  pub stands : Stands (foundBy table code at)
+  unfolding foundBy
   stands = go (leb (length code) at) refl (eqb size 0) refl (leb (at + size) (length code)) refl
     where
       size : ℕ
@@ -51,8 +51,8 @@ module _ (table : ℕ → ℕ) (code : List ℕ) (at : ℕ) where
           cut (leb-false (length code) at p) (omega arith) (leb-false (at + size) (length code) r) refl
 
   -- the width there is the value that is told
-  pub told-width : {t : Found} → t ≡ toldBy table code at → widthBy table code at ≡ t .value
-  unfolding toldBy widthBy
+  pub told-width : {t : Found} → t ≡ foundBy table code at → widthBy table code at ≡ t .value
+  unfolding foundBy widthBy
   told-width e =
       sym
       (ap (λ (t : Found). t .value) e ∙
@@ -75,10 +75,10 @@ module _ (table : ℕ → ℕ) (code : List ℕ) (at : ℕ) where
       go false p false q false r = refl
 
   -- a width that is told is there
-  pub wide : (w : ℕ) → found w ≡ toldBy table code at → Wide w
+  pub wide : (w : ℕ) → found w ≡ foundBy table code at → Wide w
   wide w e = go stands
     where
-      go : Stands (toldBy table code at) → Wide w
+      go : Stands (foundBy table code at) → Wide w
       go (past h q) = absurd (omega (arith, apart (e ∙ q)))
       go (unknown h z q) = absurd (omega (arith, apart (e ∙ q)))
       go (whole v q) =
@@ -90,27 +90,27 @@ module _ (table : ℕ → ℕ) (code : List ℕ) (at : ℕ) where
   pub width-there : 0 < widthBy table code at → Wide (widthBy table code at)
   width-there h = go stands
     where
-      go : Stands (toldBy table code at) → Wide (widthBy table code at)
+      go : Stands (foundBy table code at) → Wide (widthBy table code at)
       go (past p q) = absurd (omega (arith, told-width (sym q)))
       go (unknown p z q) = absurd (omega (arith, told-width (sym q)))
       go (whole v q) = rw (told-width (sym q)) v
       go (cut p s l q) = absurd (omega (arith, told-width (sym q)))
 
   -- no byte is told exactly past the end
-  pub told-past : without 1 ≡ toldBy table code at → length code ≤ at
+  pub told-past : without 1 ≡ foundBy table code at → length code ≤ at
   told-past e = go stands
     where
-      go : Stands (toldBy table code at) → length code ≤ at
+      go : Stands (foundBy table code at) → length code ≤ at
       go (past h q) = h
       go (unknown h z q) = absurd (omega (arith, apart (e ∙ q)))
       go (whole v q) = absurd (omega (arith, apart (e ∙ q)))
       go (cut h p l q) = absurd (omega (arith, apart (e ∙ q)))
 
   -- an unknown tag or a cut instruction is told of a byte that is there
-  pub told-byte : (why : ℕ) → 1 < why → without why ≡ toldBy table code at → at < length code
+  pub told-byte : (why : ℕ) → 1 < why → without why ≡ foundBy table code at → at < length code
   told-byte why l e = go stands
     where
-      go : Stands (toldBy table code at) → at < length code
+      go : Stands (foundBy table code at) → at < length code
       go (past h q) = absurd (omega (arith, apart (e ∙ q)))
       go (unknown h z q) = h
       go (whole v q) = v .byte

@@ -38,16 +38,16 @@ widthTold UnknownTag = without 2
 widthTold CutOff = without 3
 
 -- what stands at an offset of the code, by any table of widths
-unfoldable pub toldBy : (table : ℕ → ℕ) → List ℕ → ℕ → Found
-toldBy table code at =
+unfoldable pub foundBy : (table : ℕ → ℕ) → List ℕ → ℕ → Found
+foundBy table code at =
     cond (leb (length code) at) (without 1)
     (cond (eqb (table (getD code at 0)) 0) (without 2)
     (cond (leb (at + table (getD code at 0)) (length code)) (found (table (getD code at 0)))
     (without 3)))
 
 -- by document 01's table
-abbrev pub toldAt : List ℕ → ℕ → Found
-toldAt = toldBy widthOf
+abbrev pub foundAt : List ℕ → ℕ → Found
+foundAt = foundBy widthOf
 
 -- ---- numbers
 

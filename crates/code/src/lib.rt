@@ -4,7 +4,7 @@
 ghost use mathlib.Core.Path.{_≡_};
 ghost use Prim.Native.Nat.{_+_, _≤_};
 ghost use lib.ListN.{length, getD};
-ghost use Rattle.code.specs.Answers.{numberAt, numbered16, numbered32, widthTold, toldAt};
+ghost use Rattle.code.specs.Answers.{numberAt, numbered16, numbered32, widthTold, foundAt};
 ghost use Rattle.code.specs.Layout.{little};
 ghost use Rattle.code.specs.Rows.{widthRows};
 ghost use Rattle.code.specs.Width.{widthOf};
@@ -55,7 +55,7 @@ pub fn width_of(tag: u8) -> usize
 
 // What stands at an offset. Where the code ends before the operands do, no instruction stands there.
 pub fn width_at(code: &[u8], at: usize) -> Width
-    ensures { λ r. ⌜ widthTold r ≡ toldAt (now (code .entry)) at ⌝ }
+    ensures { λ r. ⌜ widthTold r ≡ foundAt (now (code .entry)) at ⌝ }
 {
     if code.len() <= at {
         return Width::NoByte;

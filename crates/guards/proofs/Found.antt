@@ -10,7 +10,7 @@ use Rattle.code.proofs.Widths.{wide, told-width}
 use Rattle.code.specs.Layout.{among, tagAt, indexAt}
 use Rattle.code.specs.Tags.{byte, bytes}
 use Rattle.code.specs.Tags.{LOAD-NAMED, CHAIN, SWITCH, CALL, CALL-THIS-REF, CALL-OP, CALL-LOCAL-REF, CALL-NAMED-REF}
-use Rattle.code.specs.Answers.{found, without, toldAt}
+use Rattle.code.specs.Answers.{found, without, foundAt}
 use Rattle.code.specs.Width.{widthOf, widthAt}
 use Rattle.pools.specs.Pools.{chainAt, switchAt, chainWords, switchWords, chainsIn, stepsIn, switchesIn, casesIn}
 use Rattle.rules.proofs.Operands.{index-there}
@@ -42,11 +42,11 @@ third false false c e = e
 module _ (code : List ℕ) (at : ℕ) where
   -- ---- a width
 
-  pub width-found : (w : ℕ) → found w ≡ toldAt code at → true ≡ hasWidth code at
+  pub width-found : (w : ℕ) → found w ≡ foundAt code at → true ≡ hasWidth code at
   unfolding hasWidth
   width-found w e = sym (lt-ltb 0 w (wide widthOf code at w e .some)) ∙ sym (ap (ltb 0) (told-width widthOf code at e))
 
-  pub no-width : (why : ℕ) → without why ≡ toldAt code at → false ≡ hasWidth code at
+  pub no-width : (why : ℕ) → without why ≡ foundAt code at → false ≡ hasWidth code at
   unfolding hasWidth
   no-width why e = sym (ap (ltb 0) (told-width widthOf code at e))
 

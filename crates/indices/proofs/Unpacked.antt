@@ -11,7 +11,7 @@ use lib.ListN.{length}
 use Rattle.code.specs.Layout.{Index, indices, tagAt}
 use Rattle.code.specs.Width.{widthOf, widthAt}
 use Rattle.code.proofs.Widths.{Wide, width-there}
-use Rattle.indices.specs.Fields.{digits, unpacked}
+use Rattle.indices.specs.Fields.{indexDigits, unpacked}
 use Rattle.pools.specs.Told.{fine}
 use Rattle.indices.specs.Indices.{Ref, refAt, inCode, firstBadRef}
 use Rattle.indices.specs.Checks.{checkedTold}
@@ -22,12 +22,12 @@ use Rattle.indices.proofs.Table.{Within, within}
 
 -- the second index of an entry, if there is one
 abbrev second : ℕ → List Index
-second e = cond (eqb (e % 256) 0) [] (digits (e % 256) ∷ [])
+second e = cond (eqb (e % 256) 0) [] (indexDigits (e % 256) ∷ [])
 
 module _ (code : List ℕ) (at e : ℕ) (is : unpacked e ≡ indices (tagAt code at)) where
   -- the first index as a reference, and the second, if there is one
   abbrev head : List Ref
-  head = refAt code at (digits (e / 256)) ∷ []
+  head = refAt code at (indexDigits (e / 256)) ∷ []
 
   abbrev tail : List Ref
   tail = map (refAt code at) (second e)
@@ -39,23 +39,23 @@ module _ (code : List ℕ) (at e : ℕ) (is : unpacked e ≡ indices (tagAt code
   -- ---- where they stand
 
   module _ (there : 0 < widthAt code at) (byte : tagAt code at < 256) (some : e ≡ 0 → ⊥) where
-    fit : Within (widthOf (tagAt code at)) (digits (e / 256) ∷ second e)
+    fit : Within (widthOf (tagAt code at)) (indexDigits (e / 256) ∷ second e)
     unfolding unpacked
     fit = rw (← is, ne-eqb e 0 some) at (within (tagAt code at) byte)
 
     wide : Wide widthOf code at (widthAt code at)
     wide = width-there widthOf code at there
 
-    ends : (i : Index) → List·Memᴰ i (digits (e / 256) ∷ second e) → at + i .offset + 2 ≤ length code
+    ends : (i : Index) → List·Memᴰ i (indexDigits (e / 256) ∷ second e) → at + i .offset + 2 ≤ length code
     ends i m = omega (arith, fit i m, wide .tag, wide .within)
 
     -- the first ends within the code
     pub first-within : at + e / 256 / 16 + 2 ≤ length code
-    first-within = ends (digits (e / 256)) (List·Memᴰ·head refl)
+    first-within = ends (indexDigits (e / 256)) (List·Memᴰ·head refl)
 
     -- and so does a second
     pub second-within : (e % 256 ≡ 0 → ⊥) → at + e % 256 / 16 + 2 ≤ length code
-    second-within more = ends (digits (e % 256)) (rw (ne-eqb (e % 256) 0 more) (List·Memᴰ·tail (List·Memᴰ·head refl)))
+    second-within more = ends (indexDigits (e % 256)) (rw (ne-eqb (e % 256) 0 more) (List·Memᴰ·tail (List·Memᴰ·head refl)))
 
   -- ---- what is found
 
@@ -81,5 +81,5 @@ module _ (code : List ℕ) (at e : ℕ) (is : unpacked e ≡ indices (tagAt code
       no-second f z = rw z at (rest f)
 
       pub a-second : first ≡ Fine → (e % 256 ≡ 0 → ⊥)
-          → firstBadRef size (refAt code at (digits (e % 256)) ∷ []) ≡ firstBadRef size (inCode code at)
+          → firstBadRef size (refAt code at (indexDigits (e % 256)) ∷ []) ≡ firstBadRef size (inCode code at)
       a-second f more = rw (ne-eqb (e % 256) 0 more) at (rest f)

@@ -7,11 +7,11 @@ use lib.Dec.{eqb}
 use Rattle.code.specs.Layout.{Index}
 
 -- two digits
-abbrev pub digits : ℕ → Index
-digits n = record { offset = n / 16; pool = n % 16 }
+abbrev pub indexDigits : ℕ → Index
+indexDigits n = record { offset = n / 16; pool = n % 16 }
 
 unfoldable pub unpacked : ℕ → List Index
-unpacked n = cond (eqb n 0) [] (digits (n / 256) ∷ cond (eqb (n % 256) 0) [] (digits (n % 256) ∷ []))
+unpacked n = cond (eqb n 0) [] (indexDigits (n / 256) ∷ cond (eqb (n % 256) 0) [] (indexDigits (n % 256) ∷ []))
 
 -- what the code keeps of all tags: four to a number, 16 bits each, the lowest tag lowest
 abbrev pub indexRows : List ℕ

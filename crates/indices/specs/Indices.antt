@@ -13,6 +13,8 @@ use Rattle.pools.specs.Pools.{Pools, Chain, Step, Switch, Case, chainAt, switch
 use Rattle.pools.specs.Told.{Told, fine}
 use Rattle.indices.specs.declared.Sizes.{Sizes}
 
+-- ---- one reference
+
 -- an index, and the number of the pool that it points into
 pub record Ref : Type 0 where
   pub index : ℕ
@@ -30,6 +32,8 @@ sizeOf s pool =
     (cond (eqb pool opAssignments) (s .«op_assignments»)
     (cond (eqb pool chains) (s .chains)
     (cond (eqb pool switches) (s .switches) 0)))))
+
+-- ---- the references of an instruction
 
 -- the tables of the records that an instruction can name
 pub record Tables : Type 0 where
@@ -84,6 +88,8 @@ inRecord t code at =
 -- all of them
 abbrev pub refs : Tables → List ℕ → ℕ → List Ref
 refs t code at = inCode code at ++ inRecord t code at
+
+-- ---- the answer
 
 -- BadIndex: kind 6, with the index and the pool
 abbrev pub badRef : Ref → Told

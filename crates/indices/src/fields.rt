@@ -5,7 +5,7 @@ ghost use Prim.Native.Nat.{_+_, _/_, _≤_, _<_};
 ghost use lib.ListN.{length, getD};
 ghost use Rattle.code.specs.Layout.{indices};
 ghost use Rattle.code.specs.Width.{widthAt};
-ghost use Rattle.indices.specs.Fields.{digits, unpacked, indexRows};
+ghost use Rattle.indices.specs.Fields.{indexDigits, unpacked, indexRows};
 ghost use Rattle.indices.specs.Indices.{firstBadRef, inCode, refAt, sizeOf};
 ghost use Rattle.indices.specs.Checks.{checkedTold};
 use super::Checked;
@@ -68,7 +68,7 @@ fn size_of(sizes: Sizes, number: u64) -> usize
 // One index of the instruction at an offset: `field` is its offset from there and its pool, a digit each.
 fn check_field(code: &[u8], at: usize, field: u16, sizes: Sizes) -> Checked
     requires { ⌜ at + field / 16 + 2 ≤ length (now code) ⌝ }
-    ensures { λ r. ⌜ checkedTold r ≡ firstBadRef (sizeOf sizes) (refAt (now (code .entry)) at (digits field) ∷ []) ⌝ }
+    ensures { λ r. ⌜ checkedTold r ≡ firstBadRef (sizeOf sizes) (refAt (now (code .entry)) at (indexDigits field) ∷ []) ⌝ }
 {
     let offset = (field / 16) as usize;
     let pool = (field % 16) as u64;

@@ -2,7 +2,7 @@
 // No part of the product: nothing depends on this crate. Each answer is the numbers of the definition that it cites.
 ghost use mathlib.Core.Path.{_≡_};
 ghost use lib.ListN.{length, replicate};
-ghost use Rattle.code.specs.Answers.{numberAt, toldAt};
+ghost use Rattle.code.specs.Answers.{numberAt, foundAt};
 ghost use Rattle.listing.specs.Listing.{listedAt};
 ghost use Rattle.marks.specs.Places.{bitAt};
 ghost use Rattle.probe.specs.Same.{SameTold, SameListed, SetStart, countOf};
@@ -35,7 +35,7 @@ pub struct ListedTold {
 
 #[no_mangle]
 pub extern "C" fn probe_width(code: &[u8], at: usize) -> Told
-    ensures { λ r. ⌜ SameTold r (toldAt (now (code .entry)) at) ⌝ }
+    ensures { λ r. ⌜ SameTold r (foundAt (now (code .entry)) at) ⌝ }
 {
     let width = code::width_at(code, at);
     match width {

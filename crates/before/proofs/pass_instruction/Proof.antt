@@ -2,7 +2,7 @@
 use mathlib.Core.Path.{_≡_, refl, sym, ap, _∙_}
 use native.Mathlib.Omega.{arith}
 use borrow.Author.Needs.{needs}
-use Rattle.code.specs.Answers.{found, toldAt, widthTold}
+use Rattle.code.specs.Answers.{found, foundAt, widthTold}
 use Rattle.code.specs.Width.{widthOf}
 use Rattle.code.proofs.Widths.{Wide, wide}
 use Rattle.indices.specs.Checks.{checkedTold}
@@ -20,7 +20,7 @@ start p = p .before .before .before .before .before .before .before
 
 -- where there is one
 module _ (p : tie.After-width) where
-  is-told : found (p .width .given .0 .0) ≡ toldAt (start (p .before .before) .args .code .now) (start (p .before .before) .args .at)
+  is-told : found (p .width .given .0 .0) ≡ foundAt (start (p .before .before) .args .code .now) (start (p .before .before) .args .at)
   unfolding widthTold
   is-told = sym (ap widthTold (p .width .given .1)) ∙ p .before .before .width-at .ensures
 

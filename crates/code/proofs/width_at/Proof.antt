@@ -4,12 +4,12 @@ use native.Mathlib.Omega.{arith}
 use borrow.Author.Needs.{needs}
 use borrow.Author.Tests.{le-leb, lt-leb, ne-eqb}
 use lib.ListN.{length}
-use Rattle.code.specs.Answers.{widthTold, toldBy}
+use Rattle.code.specs.Answers.{widthTold, foundBy}
 use Rattle.code.proofs.width_at.Statement.{statement}
 use Rattle.code.proofs.width_at.Tie as tie
 
 returns : tie.Need-returns
-unfolding widthTold toldBy
+unfolding widthTold foundBy
 returns c = simp (le-leb _ _ (c .if1 .taken))
 
 shared-slice-read-width-of : tie.Need-shared-slice-read-width-of
@@ -19,14 +19,14 @@ width-of-requires : tie.Need-width-of-requires
 width-of-requires c κs = search needs
 
 returns-2 : tie.Need-returns-2
-unfolding widthTold toldBy
+unfolding widthTold foundBy
 returns-2 c = simp (lt-leb _ _ (c .before .before .before .if1 .left), ← c .before .width-of .ensures, c .if2 .taken)
 
 sub-if3 : tie.Need-sub-if3
 sub-if3 c = search needs
 
 returns-3 : tie.Need-returns-3
-unfolding widthTold toldBy
+unfolding widthTold foundBy
 returns-3 c =
     let start = c .before .before .before .before .before .before in
     let end = start .args .at + c .before .before .width-of .result in
@@ -38,7 +38,7 @@ returns-3 c =
     )
 
 returns-4 : tie.Need-returns-4
-unfolding widthTold toldBy
+unfolding widthTold foundBy
 returns-4 c =
     let start = c .before .before .before .before .before .before in
     let end = start .args .at + c .before .before .width-of .result in
