@@ -3,6 +3,8 @@
 //!
 //! - A relative link leads to a file or a folder, seen from its page.
 //! - A path that begins with a folder of the repository's root leads to one, too.
+//! - A crate's name, `/` and a name that begins with a capital are the crate's file of that name, in
+//!   its specs, in its proofs, or in both.
 //! - A word in backquotes, or each part of it where `::`, `.` or `/` divide it, is a word of the
 //!   sources or of their paths. In it `*` stands for anything, and a last `-` for what may follow.
 //!   Several words in backquotes are an example, and are not looked at.
@@ -68,6 +70,17 @@ impl House {
     fn is_there(&self, path: &str) -> bool {
         let mut all = self.pages.keys().chain(self.sources.keys());
         all.any(|file| lies_in(file, path))
+    }
+
+    /// The files of a crate's specs and proofs that a short path names, as `sums/Sums`.
+    fn short(&self, path: &str) -> Option<Vec<String>> {
+        let (folder, file) = path.split_once('/')?;
+        let named = self.crates.contains(folder) && file.starts_with(char::is_uppercase);
+        let parts = ["specs", "proofs"].map(|part| format!("crates/{folder}/{part}/{file}.antt"));
+        named.then(|| {
+            let there = parts.into_iter().filter(|path| self.is_there(path));
+            there.collect()
+        })
     }
 
     /// The sources in a folder, or the one of this path.
@@ -321,6 +334,9 @@ impl<'a> Reader<'a> {
             if folder.is_some_and(|folder| FOLDERS.contains(&folder)) {
                 self.demand(self.house.is_there(path), "no such path", path);
             }
+            if let Some(files) = self.house.short(path) {
+                self.demand(!files.is_empty(), "no such file", path);
+            }
         }
     }
 
@@ -376,7 +392,10 @@ impl<'a> Reader<'a> {
             let name = word.trim_end_matches([';', ':', '.', ')']);
             match self.linked.get(name) {
                 Some(paths) => files.extend(paths.clone()),
-                None if name.contains('/') => files.push(name.to_string()),
+                None if name.contains('/') => match self.house.short(name) {
+                    Some(paths) => files.extend(paths),
+                    None => files.push(name.to_string()),
+                },
                 None if name == "and" => {}
                 None => break,
             }
@@ -494,13 +513,17 @@ fn invented() -> House {
 }
 
 /// Text for docs/PAGE.md, and how many complaints it has to give.
-const TRIED: [(&str, usize); 34] = [
+const TRIED: [(&str, usize); 38] = [
     ("[Sums](../crates/sums/specs/Sums.antt)", 0),
     ("[Sums](../crates/sums/specs/Terms.antt)", 1),
     ("[other](OTHER.md#part) [web](https://example.org/x)", 0),
     ("[other](OTHERS.md)", 1),
     ("see crates/sums/specs/Sums.antt, and crates/lists/.", 0),
     ("see crates/sums/specs/Terms.antt.", 1),
+    ("sums/Sums, and `adds-up` in sums/Sums", 0),
+    ("sums/Terms", 1),
+    ("`rows_of` in sums/Sums", 1),
+    ("sums/terms and/or", 0),
     ("`totalOf`, `adds-up`, `Sums`, `MAKE_*_OF`, `adds-`", 0),
     ("`total_of`", 1),
     ("`addsUp`", 1),

@@ -27,17 +27,21 @@ part-put-bytes-start c = search needs
 
 part-put-bytes-end : tie.Need-part-put-bytes-end
 part-put-bytes-end c =
-    omega (arith, stops-within (c .before .before .before .before .before .args .text .now) (c .before .before .word-start .result)
-    (c .before .before .word-start .ensures .0), c .before .space-from .ensures)
+    omega (
+      arith,
+      stops-within (c .before .before .before .before .before .args .text .now) (c .before .before .word-start .result)
+          (c .before .before .word-start .ensures .0),
+      c .before .space-from .ensures,
+    )
 
 put-bytes-requires : tie.Need-put-bytes-requires
 put-bytes-requires c κs =
     omega (
       arith,
       ap length (
-        word-at (c .before .before .before .before .before .before .args .number) (c .before .before .before .before .before .before .args .text .now)
-        (c .before .before .before .word-start .result) (c .before .before .before .word-start .ensures .1) (c .before .before .space-from .ensures)
-      ),
+          word-at (c .before .before .before .before .before .before .args .number) (c .before .before .before .before .before .before .args .text .now)
+          (c .before .before .before .word-start .result) (c .before .before .before .word-start .ensures .1) (c .before .before .space-from .ensures)
+          ),
     )
 
 same-length : tie.Need-same-length

@@ -25,8 +25,12 @@ shared-slice-read-if1 c = omega arith
 returns : tie.Need-returns Inv-loop μ-loop
 returns c =
     let inv = c .before .before .before .loop .inv in
-    omega (arith, inv .1, ap length (none-at-space (c .before .before .before .before .args .text .now) (c .before .before .before .loop .i)
-    (c .before .before .loop-test .taken) (c .if1 .taken)))
+    omega (
+      arith,
+      inv .1,
+      ap length (none-at-space (c .before .before .before .before .args .text .now) (c .before .before .before .loop .i)
+          (c .before .before .loop-test .taken) (c .if1 .taken)),
+    )
 
 add-i : tie.Need-add-i Inv-loop μ-loop
 add-i c = omega arith
@@ -36,9 +40,15 @@ loop-less c = omega arith
 
 loop-again : tie.Need-loop-again Inv-loop μ-loop
 loop-again c =
-    let inv = c .before .before .before .loop .inv in
-    (omega arith, omega (arith, inv .1, ap length (one-letter (c .before .before .before .before .args .text .now)
-    (c .before .before .before .loop .i) (c .before .before .loop-test .taken) (c .if1 .left))))
+    let inv = c .before .before .before .loop .inv in (
+      omega arith,
+      omega (
+        arith,
+        inv .1,
+        ap length (one-letter (c .before .before .before .before .args .text .now)
+            (c .before .before .before .loop .i) (c .before .before .loop-test .taken) (c .if1 .left)),
+      ),
+    )
 
 returns-2 : tie.Need-returns-2 Inv-loop μ-loop
 returns-2 c = omega (arith, c .before .loop .inv .1, ap length (none-at-end (c .before .before .args .text .now) (c .before .loop .i) (c .loop-test .left)))

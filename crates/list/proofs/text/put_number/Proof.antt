@@ -30,9 +30,10 @@ same-length c = search needs
 
 returns : tie.Need-returns
 returns c =
-    let e = c .before .before .before .before .before .decimal .ensures in
-    (put-as (e .1 .1 ∙ all-digits _ _ (e .1 .0)) (c .before .before .put-bytes .ensures), 
-    omega (arith, e .0 .1, few-digits _ _ (e .1 .0) (c .before .before .before .before .before .before .before .before .fits .number .fits)))
+    let e = c .before .before .before .before .before .decimal .ensures in (
+      put-as (e .1 .1 ∙ all-digits _ _ (e .1 .0)) (c .before .before .put-bytes .ensures),
+      omega (arith, e .0 .1, few-digits _ _ (e .1 .0) (c .before .before .before .before .before .before .before .before .fits .number .fits)),
+    )
 
 pub put-number-spec : {M : Type 1} → statement M
 put-number-spec =
