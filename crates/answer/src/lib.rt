@@ -1,6 +1,8 @@
 // The answer: a case for each kind of document 01, and its numbers as they cross to other languages.
 // `verdict_of` promises the numbers of every case.
 // Which answer it is, is left to those who test.
+#![tactic(auto)]
+
 pub mod verdict;
 
 // How many operands, iterators and handlers there are at a place.

@@ -2,6 +2,8 @@
 // first pass over the code with its marks, and the right to have functions. Every answer, and all that marks hold on
 // return, is fixed by what is passed in; any of it gets an answer. What passes is what a chunk's walk builds on. The
 // chunks themselves are left to `verify`.
+#![tactic(auto)]
+
 ghost use Rattle.std.proofs.Math.Option.{some};
 ghost use Rattle.std.specs.Prelude.{◌≡◌, ◌<◌, ◌/◌, length, replicate};
 ghost use Rattle.indices.specs.Checks.{tables, Sound};

@@ -1,6 +1,8 @@
 // Document 01's bench cases, and the three on which frauds show, asked of the verifier in the order of the table in
 // specs/Bench. One line for each: kind, chunk, at, p, q, instructions, reached, taken. `ask` answers what the
 // definition of the whole call says, and the table's rows are proved of that definition.
+#![tactic(auto)]
+
 ghost use Rattle.std.specs.Prelude.{◌≡◌};
 ghost use Rattle.bench.specs.Bench.{asked, lent};
 ghost use Rattle.verify.specs.Call.{result};

@@ -26,6 +26,7 @@ among_member x (y ∷ ys) e = go (eqb x y) refl e (λ rest. among_member x ys re
 
 pub member_among : (x : ℕ) (xs : List ℕ) → Memᴰ x xs → among x xs ≡ true
 unfolding among
+member_among x [] x'' = elim x'' [ ]
 member_among x (y ∷ ys) (Memᴰ.head e) = rw (eq-eqb x y e)
 member_among x (y ∷ ys) (Memᴰ.tail m) = go (eqb x y) (member_among x ys m)
   where

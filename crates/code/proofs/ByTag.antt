@@ -71,6 +71,7 @@ module _ (tag : ℕ) where
   in_table : {A : Type 0} {row : Row A} (rows : List (Row A)) → Memᴰ row rows → among tag row.tags ≡ true
       → among tag (tags_of rows) ≡ true
   unfolding tags_of
+  in_table {A = A} {row = row} [] x'' e = elim x'' [ ]
   in_table (top ∷ rows) (Memᴰ.head q) e =
       among_first top.tags (tags_of rows) (sym (ap (λ r. among tag r.tags) q) ∙ e)
   in_table (top ∷ rows) (Memᴰ.tail m) e = among_second top.tags (tags_of rows) (in_table rows m e)
@@ -92,6 +93,7 @@ once_second (x ∷ xs) ys t = once_second xs ys (second x (xs ++ ys) t)
 pub row_holds : {A : Type 0} (rows : List (Row A)) (others : A) → T (once (tags_of rows))
     → {row : Row A} → Memᴰ row rows → (tag : ℕ) → among tag row.tags ≡ true → look_up rows others tag ≡ row.says
 unfolding look_up tags_of
+row_holds {A = A} [] others t {row = row} x3 tag e = elim x3 [ ]
 row_holds (top ∷ rows) others t (Memᴰ.head q) tag e =
     rw (sym (ap (λ r. among tag r.tags) q) ∙ e) (sym (ap (λ r. r.says) q))
 row_holds (top ∷ rows) others t (Memᴰ.tail m) tag e =

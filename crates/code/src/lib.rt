@@ -1,6 +1,8 @@
 // The bytes of the code: tags, how wide an instruction is, and the numbers among its operands.
 // Every answer is fixed by the bytes and the offset, for every slice and every offset of a `usize`.
 // What a tag does is left to `rules`; which offsets start an instruction, to `listing`.
+#![tactic(auto)]
+
 ghost use Rattle.std.specs.Prelude.{◌≡◌, ◌+◌, ◌≤◌, length, get_or};
 ghost use Rattle.code.specs.Answers.{number_at, numbered16, numbered32, width_told, found_at};
 ghost use Rattle.code.specs.Layout.{little};

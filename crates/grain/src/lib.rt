@@ -3,6 +3,8 @@
 // Left to the caller's word: a pointer has as many elements as its length says, is aligned, and is null only where that
 // length is 0; no buffer overlaps another or anything that is read; and nobody else writes what is lent or read while
 // the call runs.
+#![tactic(auto)]
+
 ghost use Rattle.std.specs.Prelude.{length};
 ghost use Rattle.before.specs.Parameters.{input};
 ghost use Rattle.verify.specs.Call.{Calls};

@@ -1,6 +1,8 @@
 // Whether an instruction can be asked about: it has its width, and the entries of the tables that it names are there.
 // The answer is true exactly where `rules` can be asked about the instruction, for any bytes and any tables.
 // What is made of the answer is left to `probe`, whose exports by it ask nothing of their caller.
+#![tactic(auto)]
+
 ghost use Rattle.std.specs.Prelude.{◌≡◌, ◌+◌, ◌<◌, leb};
 ghost use Rattle.code.specs.Layout.{among};
 ghost use Rattle.code.specs.Tags.{bytes};

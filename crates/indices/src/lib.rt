@@ -2,6 +2,8 @@
 // names. The answer is the first index that is not below the size of its pool. The record is passed once, and nothing
 // is searched. Left to others: which offsets start an instruction, whether the records' own spans lie within their
 // tables, and what the instruction does.
+#![tactic(auto)]
+
 ghost use Rattle.std.specs.Prelude.{◌≡◌, [], ◌∷◌, ◌<◌};
 ghost use Rattle.code.specs.Width.{width_at};
 ghost use Rattle.indices.specs.Indices.{first_bad_ref, into, refs, size_of};

@@ -1,6 +1,8 @@
 // The chunks, over flat spans: each opened, walked item by item, and closed.
 // The answer and the heights are those of document 01's chunks upward, and records and work are zero again on return.
 // Left to `verify`: everything before the chunks, the marks and the verdict.
+#![tactic(auto)]
+
 ghost use Rattle.std.specs.Prelude.{[], ◌∷◌, ◌≡◌, ◌+◌, ◌≤◌, ◌<◌, min, length, replicate};
 ghost use Rattle.opening.specs.Ready.{Ready, Marked};
 ghost use Rattle.pools.specs.Sizes.{max_chunks};

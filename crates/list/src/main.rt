@@ -7,6 +7,8 @@
 //     more than 65536 bytes          the only line, where there is more than any code may have
 //
 // Numbers are decimal, and one space parts two words. Only the line of an instruction begins with a digit.
+#![tactic(auto)]
+
 ghost use Rattle.std.specs.Prelude.{◌≡◌, length};
 ghost use Rattle.code.specs.Width.{width_of};
 ghost use Rattle.listing.specs.Listing.{listed_at, stop_by};

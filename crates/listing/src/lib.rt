@@ -1,6 +1,8 @@
 // The instructions of the code in turn: what stands at an offset, and the offset after it.
 // Every answer is fixed by the bytes and the offset. From 0 on the answers are the starts, in order and each once, and
 // then the ending. What an instruction does is left to `rules`.
+#![tactic(auto)]
+
 ghost use Rattle.std.specs.Prelude.{◌≡◌};
 ghost use Rattle.listing.specs.Listing.{item_told, listed_at};
 

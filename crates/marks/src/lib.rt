@@ -1,6 +1,8 @@
 // Marks: a bit for each place of the code, 64 to a word, the lowest first. The bit of an instruction's start is set.
 // Each answer, and all that the marks hold on return, is fixed by what is passed in.
 // Left to the caller: which places are starts, and words enough for them.
+#![tactic(auto)]
+
 ghost use Rattle.std.specs.Prelude.{◌≡◌, ◌/◌, ◌^◌, ◌<◌, length, replicate};
 ghost use Rattle.marks.specs.Marks.{marked, total};
 ghost use Rattle.marks.specs.Places.{bit_at, is_one};

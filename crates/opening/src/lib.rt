@@ -1,6 +1,8 @@
 // A chunk opened: its own tests before its walk, its instructions listed, and its targets put in order in records.
 // The answer is document 01's on these tests, and every word of records and of work is told; a refusal leaves zeros.
 // The walk itself is left to `walk`, and what must hold of a script before its chunks to `before`.
+#![tactic(auto)]
+
 ghost use Rattle.std.specs.Prelude.{List, ◌≡◌, ℕ, ◌+◌, ◌-◌, ◌^◌, ◌≤◌, ◌<◌, length, drop, replicate};
 ghost use Rattle.std.proofs.lemmas.List.Edits.{sets};
 ghost use Rattle.code.specs.Layout.{tag_at};

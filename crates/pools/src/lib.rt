@@ -2,6 +2,8 @@
 // and good (`tables`). Every answer is fixed by the counts or the words, whatever they are. Who comes after may rely on
 // it that each span of an entry lies within its table. Which names and constants an entry may name is left to
 // `indices`.
+#![tactic(auto)]
+
 pub mod limits;
 pub mod tables;
 

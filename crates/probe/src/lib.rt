@@ -1,5 +1,7 @@
 // Exports for the tests from Rust: inner functions behind the C calling convention, total and with no `requires`.
 // No part of the product: nothing depends on this crate. Each answer is the numbers of the definition that it cites.
+#![tactic(auto)]
+
 ghost use Rattle.std.specs.Prelude.{◌≡◌, length, replicate};
 ghost use Rattle.code.specs.Answers.{number_at, found_at};
 ghost use Rattle.listing.specs.Listing.{listed_at};

@@ -1,6 +1,8 @@
 // A reader: the lent code and a place in it, for a caller who takes the items in turn. `take_item` gives the item at the
 // reader's place and the reader past it; after an ending the reader stays, so the same ending is read again.
 // The work is done on the slice and the offset. Functions over the struct only take it apart and put it together.
+#![tactic(auto)]
+
 ghost use Rattle.std.specs.Prelude.{◌≡◌};
 ghost use Rattle.listing.specs.Listing.{item_told, listed_at};
 ghost use Rattle.reader.specs.Reading.{place_after};

@@ -1,6 +1,8 @@
 // One instruction of a chunk at given depths: what its rule says of it, and whether its jumps are good.
 // Every answer is that of the rule and the judge of document 01's machine, of whatever passed the checks before.
 // Left to `walk`: which places are taken in which order, and the depths seen at them.
+#![tactic(auto)]
+
 ghost use Rattle.std.specs.Prelude.{◌||◌, List, map, ◌≡◌, ℕ, ◌+◌, ◌-◌, ◌^◌, ◌≤◌, ◌<◌, ltb, leb, length};
 ghost use Rattle.code.specs.Layout.{tag_at};
 ghost use Rattle.code.specs.Width.{width_at};

@@ -1,6 +1,8 @@
 // The whole call, in stages and at once: the order of all tests, and what the lent memory holds at its end.
 // Each answer and every word on return is fixed by what is passed in; `verify` takes any input.
 // Left to the caller: what a host does with a script that passes.
+#![tactic(auto)]
+
 ghost use Rattle.before.specs.Parameters.{input};
 ghost use Rattle.verify.specs.Call.{Calls};
 ghost use Rattle.judging.specs.Spans.{spans_of};

@@ -1,6 +1,8 @@
 // One item of a chunk's walk taken, and the two ends of the walk.
 // Taking an item is one turn of the definition of the walk, and its contract fixes every word of records and work.
 // Left to `judging`: the loops over items and chunks.
+#![tactic(auto)]
+
 pub mod chunk;
 pub mod item;
 

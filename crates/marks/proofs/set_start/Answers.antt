@@ -10,8 +10,7 @@ use lib.Dec.{lit<}
 use lib.ListN.{get_or, set}
 use lib.Pow.{shl_exact}
 use Rattle.marks.specs.Marks.{marked}
-use Rattle.marks.proofs.set_start.Statement.{statement}
-use Rattle.marks.proofs.set_start.Tie as tie
+use Rattle.marks.proofs.set_start.Goals as goal
 
 -- 1 shifted within a word loses nothing
 one_shifted : (k : ℕ) → k < 64 → (1 * 2 ^ k) % 2 ^ 64 ≡ 2 ^ k
@@ -23,23 +22,5 @@ masked : (marks : List ℕ) (at : ℕ)
 unfolding marked
 masked marks at = rw (one_shifted (at % 64) (omega arith))
 
-shl-marks : tie.Need-overflow-shl-marks
-shl-marks c = search rules
-
-mul-marks : tie.Need-overflow-mul-marks
-mul-marks c = search rules
-
-slice-read-marks : tie.Need-slice-read-marks
-slice-read-marks c = search rules
-
-slice-write-marks : tie.Need-slice-write-marks
-slice-write-marks c = search rules
-
-same_length : tie.Need-same-length
-same_length c = search rules
-
-returns : tie.Need-returns
-returns c = masked c.before.args.marks.now c.before.args.at
-
-pub set-start-spec : {M : Type 1} → statement M
-set-start-spec = tie.close (tie.spec shl-marks mul-marks slice-read-marks slice-write-marks same_length returns)
+pub returns : goal.returns
+returns c = masked c.args.marks.now c.args.at

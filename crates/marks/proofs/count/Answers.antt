@@ -1,0 +1,49 @@
+-- `marks::count` meets its contract. The loop's measure is how many words are left.
+use mathlib.Core.Path.{◌≡◌, ap}
+use mathlib.Core.List.{List}
+use Prim.Native.Nat.{ℕ, ◌≤◌, ◌<◌, ◌-◌, ◌+◌}
+use native.Mathlib.Numerals.{add-one}
+use native.Mathlib.Omega.{arith}
+use lib.Count.{ones, ones-le}
+use lib.ListN.{length, drop, get_or, drop_of_length-le}
+use lib.Seq.{drop-cons}
+use Rattle.marks.specs.Marks.{total}
+use Rattle.marks.proofs.count.Invariants.{Counted}
+use Rattle.marks.proofs.count.Goals as goal
+
+-- what is left, a word taken off
+total-drop : (l : List ℕ) (i : ℕ) → i < length l → total (drop i l) ≡ ones (get_or l i 0) + total (drop (i + 1) l)
+unfolding total
+total-drop l i h = rw (add-one, drop-cons l i 0 h)
+
+-- once every word is passed, the sum is the total
+all-counted : {marks : List ℕ} {sum counted : ℕ} → Counted marks sum counted → length marks ≤ counted → sum ≡ total marks
+unfolding total
+all-counted {marks} {sum} {counted} inv h = omega (arith, ap total (drop_of_length-le marks h))
+
+module _ (turn : tie.After-shared-slice-known invariant-loop decreases-loop) where
+  abbrev marks : List ℕ
+  marks = turn.before.before.before.args.marks.now
+
+  abbrev i : ℕ
+  i = turn.before.before.loop.counted
+
+  -- the word at hand has at most 64 ones
+  few : ones (get_or marks i 0) ≤ 64
+  few = ones-le 64 (get_or marks i 0) (turn.shared-slice-known.given i).fits
+
+  -- what is left is its ones and those of the rest
+  rest : total (drop i marks) ≡ ones (get_or marks i 0) + total (drop (i + 1) marks)
+  rest = total-drop marks i (omega arith)
+
+pub overflow_cast-sum : goal.overflow_cast-sum
+overflow_cast-sum c = omega (arith, few c)
+
+pub overflow_add-sum : goal.overflow_add-sum
+overflow_add-sum c = omega (arith, few c, rest c)
+
+pub loop-counted-preserved : goal.loop-counted-preserved
+loop-counted-preserved c = omega (arith, rest c)
+
+pub returns : goal.returns
+returns c = all-counted c.loop-counted.invariant (omega arith)
