@@ -78,6 +78,7 @@ rising_lower h (next l r) = next (le_trans h l) r
 
 -- each of them is at least `from`
 pub rising_least : {from i : ℕ} {ats : List ℕ} → RisesFrom from ats → Memᴰ i ats → from ≤ i
+rising_least {i = i} (empty {from = from}) x4 = elim x4 [ ]
 rising_least (next l r) (Memᴰ.head e) = omega arith
 rising_least (next l r) (Memᴰ.tail m) = omega (arith, rising_least r m)
 
@@ -97,6 +98,7 @@ below_least (at ∷ ats) n (next l r) h = below_skip at n ats (omega arith) ∙ 
 -- a bound moved past one of the places counts one more
 below_in : {from : ℕ} (ats : List ℕ) (n : ℕ) → RisesFrom from ats → Memᴰ n ats
     → places_below ats (suc n) ≡ places_below ats n + 1
+below_in {from = from} [] n _ x3 = elim x3 [ ]
 below_in (at ∷ ats) n (next l r) (Memᴰ.head e) =
     omega (
       arith,

@@ -159,6 +159,7 @@ all_kept marks (at ∷ ats) i e = all_kept (marked marks at) ats i (bit_kept mar
 pub all_in : (marks ats : List ℕ) → InWords (length marks) ats → (i : ℕ) → Memᴰ i ats
     → bit_at (marked_all marks ats) i ≡ 1
 unfolding marked_all
+all_in marks [] h i x'' = elim x'' [ ]
 all_in marks (at ∷ ats) h i (Memᴰ.head e) =
     all_kept (marked marks at) ats i (rw e (bit_same marks at (h at (Memᴰ.head refl))))
 all_in marks (at ∷ ats) h i (Memᴰ.tail m) =

@@ -1,6 +1,5 @@
 -- `code::read_u32` meets its contract: two numbers of two bytes make one of four.
 use native.Mathlib.Omega.{arith}
-use borrow.Author.Rules.{rules}
 use Rattle.code.proofs.Little.{four}
 use Rattle.code.proofs.read_u32.Goals as goal
 

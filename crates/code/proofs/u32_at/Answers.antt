@@ -1,7 +1,6 @@
 -- `code::u32_at` meets its contract: the two tests say whether the 4 bytes are there.
 use mathlib.Core.Path.{◌∙◌, ap}
 use native.Mathlib.Omega.{arith}
-use borrow.Author.Rules.{rules}
 use Rattle.code.specs.Answers.{numbered32, found}
 use Rattle.code.proofs.Little.{number_there, number_cut}
 use Rattle.code.proofs.u32_at.Goals as goal

@@ -1,7 +1,6 @@
 -- `code::width_at` meets its contract: its tests are those of the definition, in the same order.
 use Prim.Native.Nat.{◌+◌}
 use native.Mathlib.Omega.{arith}
-use borrow.Author.Rules.{rules}
 use borrow.Author.Tests.{le-leb, lt-leb, ne_eqb}
 use lib.ListN.{length}
 use Rattle.code.specs.Answers.{width_told, found_by}

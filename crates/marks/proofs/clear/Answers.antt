@@ -1,10 +1,10 @@
 -- `marks::clear` meets its contract. The loop's measure is how many words are left.
 use mathlib.Core.Path.{◌≡◌, refl}
-use mathlib.Core.List.{List, ◌++◌, append-nil}
-use Prim.Native.Nat.{ℕ, ◌≤◌, ◌<◌, ◌-◌}
+use mathlib.Core.List.{List, append-nil}
+use Prim.Native.Nat.{ℕ, ◌≤◌, ◌<◌}
 use native.Mathlib.Omega.{arith}
 use borrow.Author.Fill.{fill_more}
-use lib.ListN.{length, drop, replicate, length-set}
+use lib.ListN.{length, replicate, length-set}
 use lib.Seq.{drop-length}
 use Rattle.marks.proofs.clear.Invariants.{Cleared}
 use Rattle.marks.proofs.clear.Goals as goal

@@ -1,11 +1,8 @@
 -- `marks::clear` meets its contract. The loop's measure is how many words are left.
-use mathlib.Core.Path.{◌≡◌, refl}
-use mathlib.Core.List.{List, ◌++◌, append-nil}
-use Prim.Native.Nat.{ℕ, ◌≤◌, ◌<◌, ◌-◌}
-use native.Mathlib.Omega.{arith}
-use borrow.Author.Fill.{fill_more}
-use lib.ListN.{length, drop, replicate, length-set}
-use lib.Seq.{drop-length}
+use mathlib.Core.Path.{◌≡◌}
+use mathlib.Core.List.{List, ◌++◌}
+use Prim.Native.Nat.{ℕ, ◌≤◌, ◌-◌}
+use lib.ListN.{length, drop, replicate}
 use Rattle.marks.proofs.clear.Given as goal
 
 -- the words passed are 0, and the others are as they were

@@ -1,7 +1,7 @@
 -- `marks::count` meets its contract. The loop's measure is how many words are left.
 use mathlib.Core.Path.{◌≡◌, ap}
 use mathlib.Core.List.{List}
-use Prim.Native.Nat.{ℕ, ◌≤◌, ◌<◌, ◌-◌, ◌+◌}
+use Prim.Native.Nat.{ℕ, ◌≤◌, ◌<◌, ◌+◌}
 use native.Mathlib.Numerals.{add-one}
 use native.Mathlib.Omega.{arith}
 use lib.Count.{ones, ones-le}
@@ -9,6 +9,7 @@ use lib.ListN.{length, drop, get_or, drop_of_length-le}
 use lib.Seq.{drop-cons}
 use Rattle.marks.specs.Marks.{total}
 use Rattle.marks.proofs.count.Invariants.{Counted}
+use Rattle.std.proofs.Common.{Fits, w64}
 use Rattle.marks.proofs.count.Goals as goal
 
 -- what is left, a word taken off
@@ -21,29 +22,18 @@ all-counted : {marks : List ℕ} {sum counted : ℕ} → Counted marks sum count
 unfolding total
 all-counted {marks} {sum} {counted} inv h = omega (arith, ap total (drop_of_length-le marks h))
 
-module _ (turn : tie.After-shared-slice-known invariant-loop decreases-loop) where
-  abbrev marks : List ℕ
-  marks = turn.before.before.before.args.marks.now
-
-  abbrev i : ℕ
-  i = turn.before.before.loop.counted
-
-  -- the word at hand has at most 64 ones
-  few : ones (get_or marks i 0) ≤ 64
-  few = ones-le 64 (get_or marks i 0) (turn.shared-slice-known.given i).fits
-
-  -- what is left is its ones and those of the rest
-  rest : total (drop i marks) ≡ ones (get_or marks i 0) + total (drop (i + 1) marks)
-  rest = total-drop marks i (omega arith)
+-- a word has at most 64 ones
+few : (marks : List ℕ) (i : ℕ) → Fits w64 (get_or marks i 0) → ones (get_or marks i 0) ≤ 64
+few marks i f = ones-le 64 (get_or marks i 0) f.fits
 
 pub overflow_cast-sum : goal.overflow_cast-sum
-overflow_cast-sum c = omega (arith, few c)
+overflow_cast-sum c = omega (arith, few c.args.marks.now c.loop-counted.counted (c.type_inv.marks c.loop-counted.counted))
 
 pub overflow_add-sum : goal.overflow_add-sum
-overflow_add-sum c = omega (arith, few c, rest c)
+overflow_add-sum c = omega (arith, few c.args.marks.now c.loop-counted.counted (c.type_inv.marks c.loop-counted.counted), total-drop c.args.marks.now c.loop-counted.counted (omega arith))
 
 pub loop-counted-preserved : goal.loop-counted-preserved
-loop-counted-preserved c = omega (arith, rest c)
+loop-counted-preserved c = omega (arith, total-drop c.args.marks.now c.loop-counted.counted (omega arith))
 
 pub returns : goal.returns
 returns c = all-counted c.loop-counted.invariant (omega arith)

@@ -1,12 +1,8 @@
 -- `marks::count` meets its contract. The loop's measure is how many words are left.
-use mathlib.Core.Path.{◌≡◌, ap}
+use mathlib.Core.Path.{◌≡◌}
 use mathlib.Core.List.{List}
-use Prim.Native.Nat.{ℕ, ◌≤◌, ◌<◌, ◌-◌, ◌+◌}
-use native.Mathlib.Numerals.{add-one}
-use native.Mathlib.Omega.{arith}
-use lib.Count.{ones, ones-le}
-use lib.ListN.{length, drop, get_or, drop_of_length-le}
-use lib.Seq.{drop-cons}
+use Prim.Native.Nat.{ℕ, ◌≤◌, ◌-◌, ◌+◌}
+use lib.ListN.{length, drop}
 use Rattle.marks.specs.Marks.{total}
 use Rattle.marks.proofs.count.Given as goal
 
