@@ -1,10 +1,7 @@
 -- `pools::limits::check_limits` meets its contract: the limits before the one at hand are kept.
 use Prim.Native.Nat.{◌-◌}
-use native.Mathlib.Omega.{arith}
 use lib.ListN.{length}
-use Rattle.pools.specs.Sizes.{max_code, limits}
-use Rattle.pools.specs.Answers.{limits_told}
-use Rattle.pools.proofs.LimitLaws.{Passed, none_yet, one_more, at_exceeded, past_last}
+use Rattle.pools.proofs.LimitLaws.{Passed}
 use Rattle.pools.proofs.limits.check_limits.Given as goal
 
 abbrev pub invariant-loop-at : goal.invariant-loop-at

@@ -1,12 +1,9 @@
 -- `pools::tables::check_steps` meets its contract: the entries before the one at hand are good.
-use mathlib.Core.Path.{sym, ◌∙◌}
 use Prim.Native.Nat.{◌-◌}
-use native.Mathlib.Omega.{arith}
 use Rattle.pools.specs.Pools.{step_at, steps_in}
 use Rattle.pools.specs.Tables.{bad_step}
-use Rattle.pools.specs.Answers.{tables_told}
 use Rattle.pools.specs.Told.{bad_table}
-use Rattle.pools.proofs.First.{Passed, none_yet, one_more, at_bad, past_last}
+use Rattle.pools.proofs.First.{Passed}
 use Rattle.pools.proofs.tables.check_steps.Given as goal
 
 abbrev pub invariant-loop-entry : goal.invariant-loop-entry

@@ -1,12 +1,8 @@
 -- `pools::tables::check_switches` meets its contract: the entries before the one at hand are good.
 use mathlib.Core.Path.{sym, ◌∙◌}
-use Prim.Native.Nat.{◌-◌}
 use native.Mathlib.Omega.{arith}
-use Rattle.pools.specs.Pools.{switch_at, switches_in}
-use Rattle.pools.specs.Tables.{bad_switch}
 use Rattle.pools.specs.Answers.{tables_told}
-use Rattle.pools.specs.Told.{bad_table}
-use Rattle.pools.proofs.First.{Passed, none_yet, one_more, at_bad, past_last}
+use Rattle.pools.proofs.First.{none_yet, one_more, at_bad, past_last}
 use Rattle.pools.proofs.tables.check_switches.Goals as goal
 
 pub loop-entry-init : goal.loop-entry-init

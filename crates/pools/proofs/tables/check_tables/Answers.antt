@@ -1,7 +1,6 @@
 -- `pools::tables::check_tables` meets its contract: each return is a way through the tests.
 use mathlib.Core.Path.{sym, ap, ◌∙◌}
 use native.Mathlib.Omega.{arith}
-use borrow.Author.Rules.{rules}
 use Rattle.pools.specs.Pools.{chain_words, step_words, switch_words, case_words}
 use Rattle.pools.specs.Answers.{tables_told}
 use Rattle.pools.proofs.TableLaws.{left_over, none_over}
@@ -27,13 +26,15 @@ returns-then-chains-ne0 c = ragged_chains _ _ _ _ _ (left_over chain_words _ (om
 
 pub returns-then-steps-ne0 : goal.returns-then-steps-ne0
 unfolding tables_told
-returns-then-steps-ne0 c = ragged_steps _ _ _ _ _ (none_over chain_words _ (omega arith)) (left_over step_words _ (omega arith))
+returns-then-steps-ne0 c =
+    ragged_steps _ _ _ _ _ (none_over chain_words _ (omega arith)) (left_over step_words _ (omega arith))
 
 pub returns-then-switches-ne0 : goal.returns-then-switches-ne0
 unfolding tables_told
 returns-then-switches-ne0 c =
     ragged_switches _ _ _ _ _
-    (none_over chain_words _ (omega arith)) (none_over step_words _ (omega arith)) (left_over switch_words _ (omega arith))
+    (none_over chain_words _ (omega arith)) (none_over step_words _ (omega arith))
+    (left_over switch_words _ (omega arith))
 
 pub returns-then-cases-ne0 : goal.returns-then-cases-ne0
 unfolding tables_told
@@ -45,8 +46,8 @@ returns-then-cases-ne0 c =
 pub returns-in_default : goal.returns-in_default
 unfolding tables_told
 returns-in_default c =
-    in_chains_lem _ _ _ _ _ (none_ragged _ _ _ _ _ (omega arith) (omega arith) (omega arith) (omega arith)) c.check_chains-in_chains.ensures
-    (omega (arith, ap (λ r. (tables_told r).kind) c.in_default.is))
+    in_chains_lem _ _ _ _ _ (none_ragged _ _ _ _ _ (omega arith) (omega arith) (omega arith) (omega arith))
+    c.check_chains-in_chains.ensures (omega (arith, ap (λ r. (tables_told r).kind) c.in_default.is))
 
 pub returns-in_default-in_steps : goal.returns-in_default-in_steps
 unfolding tables_told
