@@ -57,7 +57,8 @@ module _ {ls : List Limit} where
     pub one_more : (l : Limit) → at < length ls → (get_or ls at l).1 ≡ false → Passed ls (at + 1)
     one_more l h e = record { within = omega arith; so_far = sym (kept_first (get_or ls at l) _ e) ∙ in_hand l h }
 
-    pub at_exceeded : (l : Limit) → at < length ls → (get_or ls at l).1 ≡ true → over_limit (get_or ls at l).0 ≡ first_over ls
+    pub at_exceeded : (l : Limit) → at < length ls → (get_or ls at l).1 ≡ true
+        → over_limit (get_or ls at l).0 ≡ first_over ls
     at_exceeded l h e = sym (exceeded_first (get_or ls at l) _ e) ∙ in_hand l h
 
     pub past_last : length ls ≤ at → fine ≡ first_over ls

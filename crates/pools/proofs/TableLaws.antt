@@ -176,7 +176,8 @@ module _ (chains steps switches cases ranges : List ℕ) where
       in_turn : Upward (bad_table 1) chain_bad (chains_in chains) in_chains
           → Upward (bad_table 2) step_bad (steps_in steps) in_steps
           → Upward (bad_table 3) switch_bad (switches_in switches) in_switches → Outcome told
-      in_turn (first_at i at e) s w = refused (bad_chain_lem (all_whole n) at) (sym (in_chains_lem n (sym e) (omega arith)))
+      in_turn (first_at i at e) s w =
+          refused (bad_chain_lem (all_whole n) at) (sym (in_chains_lem n (sym e) (omega arith)))
       in_turn (none c p) (first_at i at e) w =
           refused
           (bad_step_lem (all_whole n) (λ k h. good_chain _ _ (c k h)) at)
@@ -209,7 +210,8 @@ module _ (chains steps switches cases ranges : List ℕ) where
           (sym (ragged_switches c s w))
       go false c false s false w true k =
           refused
-          (ragged_case (is_whole chain_words chains c) (is_whole step_words steps s) (is_whole switch_words switches w) k)
+          (ragged_case (is_whole chain_words chains c) (is_whole step_words steps s)
+          (is_whole switch_words switches w) k)
           (sym (ragged_cases c s w k))
       go false c false s false w false k =
           by_entry (record { chains_whole = c; steps_whole = s; switches_whole = w; cases_whole = k })

@@ -50,4 +50,5 @@ first_bad_table chains steps switches cases ranges =
     first_told (
     whole_table 1 chain_words chains ∷ whole_table 2 step_words steps ∷ whole_table 3 switch_words switches ∷
     whole_table 4 case_words cases ∷
-    good_chains chains (steps_in steps) ∷ good_steps steps ∷ good_switches switches (cases_in cases) (length ranges) ∷ [])
+    good_chains chains (steps_in steps) ∷ good_steps steps ∷
+    good_switches switches (cases_in cases) (length ranges) ∷ [])

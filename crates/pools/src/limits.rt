@@ -39,7 +39,7 @@ const MAX_SWITCHES: usize = 4096;
 const MAX_CHUNKS: usize = 1024;
 
 // A limit: its number, and whether it is exceeded.
-#[derive(Drop)]
+#[derive(Clone, Copy)]
 pub struct Limit(pub u64, pub bool);
 
 // Is there more of anything than its limit allows?

@@ -146,8 +146,7 @@ pub fn check_tables(
     cases: &[u32],
     ranges: &[u32],
 ) -> Tables
-    ensures { tables_told result ≡ first_bad_table chains.now steps.now switches.now
-        cases.now ranges.now }
+    ensures { tables_told result ≡ first_bad_table chains.now steps.now switches.now cases.now ranges.now }
 {
     if chains.len() % CHAIN_WORDS != 0 {
         return Tables::Bad(CHAIN_TABLE, (chains.len() / CHAIN_WORDS) as u64);
