@@ -13,10 +13,12 @@ use Rattle.machine.specs.Lists.{◌∈◌, here, there, NoRepeats, sum_of}
 
 module _ {A B : Type 0} (f : A → B) where
   pub ∈-map : {a : A} (l : List A) → a ∈ l → f a ∈ map f l
+  ∈-map {a = a} [] x' = elim x' [ ]
   ∈-map (x ∷ l) (here e) = here (ap f e)
   ∈-map (x ∷ l) (there m) = there (∈-map l m)
 
   pub map_∈ : {b : B} (l : List A) → b ∈ map f l → (a : A) × (a ∈ l) × (f a ≡ b)
+  map_∈ {b = b} [] x' = elim x' [ ]
   map_∈ (x ∷ l) (here e) = (x, here refl, sym e)
   map_∈ (x ∷ l) (there m) = let r = map_∈ l m in (r.0, there r.1, r.2)
 
@@ -24,16 +26,19 @@ module _ {A B : Type 0} (f : A → B) where
 
 -- The list without the element that the membership points at.
 without : {x : ℕ} (ys : List ℕ) → x ∈ ys → List ℕ
+without [] x'' = elim x'' [ ]
 without (y ∷ ys) (here e) = ys
 without (y ∷ ys) (there m) = y ∷ without ys m
 
 sum_without : (f : ℕ → ℕ) {x : ℕ} (ys : List ℕ) (m : x ∈ ys) → sum_of f ys ≡ f x + sum_of f (without ys m)
 unfolding sum_of without
+sum_without f [] m = elim m [ ]
 sum_without f (y ∷ ys) (here e) = rw e
 sum_without f (y ∷ ys) (there m) = omega (arith, sum_without f ys m)
 
 ∈-without : {x z : ℕ} (ys : List ℕ) (m : x ∈ ys) → z ∈ ys → ¬ (z ≡ x) → z ∈ without ys m
 unfolding without
+∈-without {z = z} [] m _ n = elim m [ ]
 ∈-without (y ∷ ys) (here e) (here q) n = absurd (n (q ∙ sym e))
 ∈-without (y ∷ ys) (here e) (there k) n = k
 ∈-without (y ∷ ys) (there m) (here q) n = here q

@@ -57,6 +57,7 @@ lookup_some it (x ∷ t) e = go (ℕ_discrete it.place x.place) (lookup_some it 
 
 -- With no place twice, whatever stands in the table is looked up.
 pub lookup_in : (it : Item) (t : List Item) → NoRepeats (places t) → it ∈ t → lookup it.place t ≡ some it.depths
+lookup_in it [] nr x'' = elim x'' [ ]
 lookup_in it (x ∷ t) nr (here e) = rw e (lookup_hit x t refl)
 lookup_in it (x ∷ t) nr (there m) = lookup_miss x t (λ e. nr.0 (rw e at (place_∈ t m))) ∙ lookup_in it t nr.1 m
 
@@ -86,12 +87,14 @@ module _ {R : Type 0} (M : Machine R) where
 
   top_at : {it : Item} (t : List Item) → it ∈ t → it.depths.operands ≤ top t
   unfolding top
+  top_at {it = it} [] x' = elim x' [ ]
   top_at (x ∷ t) (here e) = rw e (omega arith)
   top_at (x ∷ t) (there m) = omega (arith, top_at t m)
 
   top_after : {it : Item} (t : List Item) → it ∈ t → (g : Passes M it) → g.post ≤ top t
   unfolding top post_of
   top_after (x ∷ t) (here e) g = let q : post_of (M.rule x.place x.depths) ≡ g.post = cc g.ruled in omega arith
+  top_after {it = it} [] x' g = elim x' [ ]
   top_after (x ∷ t) (there m) g = omega (arith, top_after t m g)
 
   -- ---- finished tables

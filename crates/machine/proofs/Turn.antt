@@ -31,6 +31,7 @@ module _ {R : Type 0} (test : ℕ → Option R) where
 
   -- Where there is none, each jump passes the test;
   pub bad_none : {j : Item} (js : List Item) → first_bad_jump test js ≡ none → j ∈ js → test j.place ≡ none
+  bad_none {j = j} [] e m = elim m [ ]
   bad_none {j} (k ∷ js) e m = go (test k.place) refl (∈-cases m) (bad_none js)
     where
       go : (o : Option R)
