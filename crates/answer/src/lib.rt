@@ -6,7 +6,7 @@
 pub mod verdict;
 
 // How many operands, iterators and handlers there are at a place.
-#[derive(Drop)]
+#[derive(Clone, Copy)]
 pub struct Depths {
     pub operands: u32,
     pub iterators: u32,
@@ -14,7 +14,7 @@ pub struct Depths {
 }
 
 // The answer, a case for each kind of document 01, in the order of their numbers.
-#[derive(Drop)]
+#[derive(Clone, Copy)]
 pub enum Answer {
     Accepted {
         instructions: u64,
@@ -73,7 +73,7 @@ pub enum Answer {
 }
 
 // A test passes, or refuses with an answer.
-#[derive(Drop)]
+#[derive(Clone, Copy)]
 pub enum Outcome {
     Passed,
     Refused(Answer),

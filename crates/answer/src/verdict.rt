@@ -6,7 +6,7 @@ use crate::Answer;
 
 // Kind, chunk, at, p, q and three counts. The chunk is 4,294,967,295 before the chunks and on acceptance.
 #[repr(C)]
-#[derive(Drop)]
+#[derive(Clone, Copy)]
 pub struct Verdict {
     pub kind: u32,
     pub chunk: u32,

@@ -27,7 +27,7 @@ fn width_row(row: u8) -> u64
 }
 
 // What stands at an offset: an instruction of so many bytes, or why there is none.
-#[derive(Drop)]
+#[derive(Clone, Copy)]
 pub enum Width {
     Of(usize),
     NoByte,
@@ -36,14 +36,14 @@ pub enum Width {
 }
 
 // A number of two bytes, where both are there.
-#[derive(Drop)]
+#[derive(Clone, Copy)]
 pub enum Number16 {
     Is(u16),
     CutOff,
 }
 
 // A number of four bytes, where all are there.
-#[derive(Drop)]
+#[derive(Clone, Copy)]
 pub enum Number32 {
     Is(u32),
     CutOff,

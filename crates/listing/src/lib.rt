@@ -9,7 +9,7 @@ ghost use Rattle.listing.specs.Listing.{item_told, listed_at};
 use code::Width;
 
 // An instruction: its offset, tag and width, and the offset after it.
-#[derive(Drop)]
+#[derive(Clone, Copy)]
 pub struct Item {
     pub at: usize,
     pub tag: u8,
@@ -18,7 +18,7 @@ pub struct Item {
 }
 
 // What stands at an offset: an instruction, the code's end, or a byte without a width, with its offset.
-#[derive(Drop)]
+#[derive(Clone, Copy)]
 pub enum Listed {
     Instruction(Item),
     End,

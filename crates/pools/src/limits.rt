@@ -4,7 +4,7 @@ ghost use Rattle.pools.specs.Sizes.{first_exceeded};
 ghost use Rattle.pools.specs.Answers.{limits_told};
 
 // How many there are of each, tables by whole entries.
-#[derive(Drop)]
+#[derive(Clone, Copy)]
 pub struct Sizes {
     pub code: usize,
     pub constants: usize,
@@ -20,7 +20,7 @@ pub struct Sizes {
 }
 
 // Every limit is kept, or the first that is not, by its number.
-#[derive(Drop)]
+#[derive(Clone, Copy)]
 pub enum Limits {
     Kept,
     Exceeded(u64),

@@ -11,7 +11,7 @@ use super::{CASE_WORDS, CHAIN_WORDS, STEP_WORDS, SWITCH_WORDS};
 
 // Every table is whole and each entry good; or a table, and its first bad entry, or the number of whole ones where it
 // is ragged.
-#[derive(Drop)]
+#[derive(Clone, Copy)]
 pub enum Tables {
     Good,
     Bad(u64, u64),

@@ -10,14 +10,14 @@ ghost use Rattle.reader.specs.Reading.{place_after};
 use listing::Listed;
 
 // The lent code, and the reader's own place in it.
-#[derive(Drop)]
+#[derive(Clone, Copy)]
 pub struct Reader<'a> {
     pub code: &'a [u8],
     pub at: usize,
 }
 
 // What was read, and the reader past it.
-#[derive(Drop)]
+#[derive(Clone, Copy)]
 pub struct Step<'a> {
     pub item: Listed,
     pub rest: Reader<'a>,
@@ -63,7 +63,7 @@ pub fn take_item<'a>(r: Reader<'a>) -> Step<'a>
 }
 
 // What was read, and the place after it.
-#[derive(Drop)]
+#[derive(Clone, Copy)]
 pub struct Taken {
     pub item: Listed,
     pub next: usize,

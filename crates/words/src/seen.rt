@@ -7,7 +7,7 @@ ghost use Rattle.words.specs.Seen.{seen_told, seen_at, note_at};
 use answer::Depths;
 
 // Whether a place was seen, and with which depths.
-#[derive(Drop)]
+#[derive(Clone, Copy)]
 pub enum Seen {
     Never,
     With(Depths),

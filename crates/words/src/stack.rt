@@ -5,7 +5,7 @@ ghost use Rattle.words.specs.Stack.{item_at, put};
 use answer::Depths;
 
 // A place, and the depths there.
-#[derive(Drop)]
+#[derive(Clone, Copy)]
 pub struct Waiting {
     pub place: u32,
     pub depths: Depths,
