@@ -25,7 +25,7 @@ use rules::caps;
 
 // What one instruction of the first pass comes to: it is passed, and this is the offset after it; the code has ended;
 // or a refusal.
-#[derive(Drop)]
+#[derive(Clone, Copy)]
 pub enum Turn {
     Next(usize),
     Done,

@@ -8,7 +8,7 @@ use listing::Listed;
 // What stands at an offset, by kind: 0 an instruction, 1 the code's end, 2 a byte without a width. What a kind has no use for
 // is 0.
 #[repr(C)]
-#[derive(Drop)]
+#[derive(Clone, Copy)]
 pub struct Item {
     pub kind: u32,
     pub tag: u32,

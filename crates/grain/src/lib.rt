@@ -17,7 +17,7 @@ use verify::stages;
 
 // A chunk's span in the code, and the height that it declares.
 #[repr(C)]
-#[derive(Drop)]
+#[derive(Clone, Copy)]
 pub struct Chunk {
     pub entry: u32,
     pub end: u32,
@@ -50,14 +50,14 @@ pub extern "C" fn grain_verify(
         (length (spans_from chunks.now)))
         (spans_from chunks.now)
         (record {
-          marks = marks.entry.now;
+          marks = marks.old;
           heights = heights.old;
           records = records.old;
           work = work.old;
         })
         result
         (record {
-          marks = marks.exit.now;
+          marks = marks.new;
           heights = heights.new;
           records = records.new;
           work = work.new;

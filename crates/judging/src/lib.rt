@@ -15,7 +15,7 @@ use opening::Opened;
 use walk::{Turn, chunk, item};
 
 // All chunks pass, with the sums of their counts; or the first that fails, with its answer.
-#[derive(Drop)]
+#[derive(Clone, Copy)]
 pub enum Judgement {
     Passed { reached: u64, taken: u64 },
     Refused { chunk: u32, answer: Answer },

@@ -26,7 +26,7 @@ const WORK: u64 = 4;
 
 // A chunk that is ready to be walked: where it starts and ends, the index in records from which depths are kept, and
 // how many keys stand before that.
-#[derive(Drop)]
+#[derive(Clone, Copy)]
 pub struct Room {
     pub entry: u32,
     pub end: u32,
@@ -35,7 +35,7 @@ pub struct Room {
 }
 
 // What opening a chunk comes to.
-#[derive(Drop)]
+#[derive(Clone, Copy)]
 pub enum Opened {
     Ready(Room),
     Refused(Answer),
@@ -43,7 +43,7 @@ pub enum Opened {
 
 // What the instructions listed so far come to: their targets, repeats counted; their edges; and how many words of
 // records are in use, the entry first.
-#[derive(Drop)]
+#[derive(Clone, Copy)]
 pub struct Tally {
     pub targets: u64,
     pub edges: u64,

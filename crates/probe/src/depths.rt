@@ -8,7 +8,7 @@ use answer::Depths;
 use rules::{Effect, edges, shapes};
 
 #[repr(C)]
-#[derive(Drop)]
+#[derive(Clone, Copy)]
 pub struct DepthsTold {
     pub number: u64,
     pub operands: u64,
@@ -18,7 +18,7 @@ pub struct DepthsTold {
 
 // How many a tag needs, and 1 or 0 for what is true of it or not.
 #[repr(C)]
-#[derive(Drop)]
+#[derive(Clone, Copy)]
 pub struct NeededTold {
     pub iterators: u64,
     pub handlers: u64,

@@ -7,7 +7,7 @@ use crate::Told;
 use rules::{edges, effects, rights, shapes};
 
 #[repr(C)]
-#[derive(Drop)]
+#[derive(Clone, Copy)]
 pub struct EffectTold {
     pub number: u64,
     pub needs: u64,

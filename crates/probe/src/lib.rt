@@ -18,7 +18,7 @@ pub mod whole;
 
 // An answer in numbers: which case it is, and its value.
 #[repr(C)]
-#[derive(Drop)]
+#[derive(Clone, Copy)]
 pub struct Told {
     pub number: u64,
     pub value: u64,
@@ -26,7 +26,7 @@ pub struct Told {
 
 // A listed item in numbers.
 #[repr(C)]
-#[derive(Drop)]
+#[derive(Clone, Copy)]
 pub struct ListedTold {
     pub number: u64,
     pub at: u64,

@@ -24,7 +24,7 @@ use rules::Effect;
 
 // Where control goes from an instruction: whether it falls through, the place after it, the depths just after it, and
 // those at each of its targets.
-#[derive(Drop)]
+#[derive(Clone, Copy)]
 pub struct Edges {
     pub falls: bool,
     pub next: u32,
@@ -33,7 +33,7 @@ pub struct Edges {
 }
 
 // What the rule of an instruction says: it denies with an answer, or gives the edges.
-#[derive(Drop)]
+#[derive(Clone, Copy)]
 pub enum Ruling {
     Denies(Answer),
     Gives(Edges),

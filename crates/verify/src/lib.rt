@@ -40,14 +40,14 @@ pub fn verify(
         (length (spans_of entries.now ends.now declared.now)))
         (spans_of entries.now ends.now declared.now)
         (record {
-          marks = marks.entry.now;
+          marks = marks.old;
           heights = heights.old;
           records = records.old;
           work = work.old;
         })
         result
         (record {
-          marks = marks.exit.now;
+          marks = marks.new;
           heights = heights.new;
           records = records.new;
           work = work.new;

@@ -9,7 +9,7 @@ use answer::{Answer, Outcome, verdict};
 use judging::Judgement;
 
 // A call between two stages: it goes on, with what is counted so far, or it has ended with its verdict.
-#[derive(Drop)]
+#[derive(Clone, Copy)]
 pub enum State {
     Going {
         instructions: u64,

@@ -10,7 +10,7 @@ use answer::{Answer, Depths};
 
 // The item in hand, and what one item hands to the next: its place and the depths there; how many keys are below the
 // place; how many items wait in work; the instructions entered, the items taken, and the largest number of operands.
-#[derive(Drop)]
+#[derive(Clone, Copy)]
 pub struct Hand {
     pub place: u32,
     pub depths: Depths,
@@ -22,7 +22,7 @@ pub struct Hand {
 }
 
 // What a walk has counted: the instructions entered, the items taken, and the largest number of operands.
-#[derive(Drop)]
+#[derive(Clone, Copy)]
 pub struct Counts {
     pub reached: u64,
     pub taken: u64,
@@ -30,7 +30,7 @@ pub struct Counts {
 }
 
 // What taking an item comes to: the next one in hand; none is left, and these are the counts; or a refusal.
-#[derive(Drop)]
+#[derive(Clone, Copy)]
 pub enum Turn {
     Next(Hand),
     Done(Counts),
