@@ -192,14 +192,17 @@ fn main() {
     println!("cargo:rustc-cfg=feature=\"no_ast\"");
 }
 
-/// Where `rt staticlib` puts the proved libraries. The tests link them in any case; a program
-/// that can do without asks whether both are there.
+/// Where `rt lib` puts the proved libraries. The tests link them in any case; a program that
+/// can do without asks whether both are there.
 fn link() {
-    let libraries = variable("CARGO_MANIFEST_DIR").join("../target/staticlib");
-    println!("cargo:rustc-link-search=native={}", libraries.display());
-    println!("cargo:rerun-if-changed={}", libraries.display());
-    let made = |name| libraries.join(name).is_file();
-    if made("libgrain.a") && made("libprobe.a") {
+    let made = ["grain", "probe"].map(|name| {
+        let folder = variable("CARGO_MANIFEST_DIR").join(format!("../crates/{name}/out"));
+        let library = folder.join(format!("lib{name}.a"));
+        println!("cargo:rustc-link-search=native={}", folder.display());
+        println!("cargo:rerun-if-changed={}", library.display());
+        library.is_file()
+    });
+    if made == [true, true] {
         println!("cargo:rustc-cfg=library");
     }
 }

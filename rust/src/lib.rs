@@ -33,7 +33,7 @@
 //! - [`item_at`], [`instructions`], [`Listed`]: the listing, for people and for tools.
 //!
 //! `include/grain.h` says what each number means. The library is linked statically and has to be
-//! built before: `rt staticlib grain`.
+//! built before: `rt lib` in `crates/grain`.
 
 #![deny(unsafe_op_in_unsafe_fn)]
 #![warn(missing_docs)]

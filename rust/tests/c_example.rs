@@ -24,7 +24,7 @@ fn compiled(source: &str, name: &str) -> PathBuf {
     let program = Path::new(env!("CARGO_TARGET_TMPDIR")).join(name);
     let mut command = compiler("cc", "-std=c99");
     command.arg(root().join(source));
-    command.arg(root().join("target/staticlib/libgrain.a"));
+    command.arg(root().join("crates/grain/out/libgrain.a"));
     let output = command.arg("-o").arg(&program).output();
     written(output.expect("there is a C compiler"));
     program

@@ -43,5 +43,5 @@ fn main() -> std::process::ExitCode {
 
 #[cfg(not(library))]
 fn main() {
-    panic!("`rt staticlib grain` and `rt staticlib probe` make what this program links");
+    panic!("`rt lib` in crates/grain and in crates/probe makes what this program links");
 }
