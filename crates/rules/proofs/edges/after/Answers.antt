@@ -1,5 +1,4 @@
 -- `rules::edges::after` meets its contract: the flow tells what becomes of the iterators and handlers.
-use borrow.Author.Rules.{rules}
 use Rattle.rules.proofs.Flows.{drop_held, handler_held, after_of_lem, after_rest}
 use Rattle.rules.proofs.edges.after.Goals as goal
 

@@ -1,7 +1,6 @@
 -- `rules::edges::arm` meets its contract: the words of the entry are the switch's, and its cases and ranges are in their tables.
 use Prim.Native.Nat.{◌+◌, ◌*◌}
 use native.Mathlib.Omega.{arith}
-use borrow.Author.Rules.{rules}
 use Rattle.pools.specs.Pools.{switch_at, case_at}
 use Rattle.rules.proofs.Arms.{case_arm, range_arm, default_arm}
 use Rattle.rules.proofs.edges.arm.Goals as goal

@@ -1,6 +1,5 @@
 -- `rules::edges::edge_count` meets its contract: one edge more than targets where control falls through.
 use mathlib.Core.Path.{refl, sym, ◌∙◌}
-use borrow.Author.Rules.{rules}
 use Rattle.rules.proofs.Targets.{one_more, no_more}
 use Rattle.rules.proofs.edges.edge_count.Goals as goal
 

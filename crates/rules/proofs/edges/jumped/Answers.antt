@@ -1,5 +1,4 @@
 -- `rules::edges::jumped` meets its contract: the flow tells what becomes of the depths at a target.
-use borrow.Author.Rules.{rules}
 use Rattle.rules.proofs.Flows.{next_held, jumped_of_lem, jumped_rest}
 use Rattle.rules.proofs.edges.jumped.Goals as goal
 

@@ -1,6 +1,5 @@
 -- `rules::effects::fixed_effect` meets its contract: a simple word has no count, and is no CHAIN's.
 use Rattle.rules.proofs.Simple.{simple_acts}
-use borrow.Author.Rules.{rules}
 use Rattle.rules.proofs.effects.fixed_effect.Goals as goal
 
 pub returns : goal.returns

@@ -1,7 +1,6 @@
 -- `rules::rights::chain_caps` meets its contract: the words of the entry are the chain's, and its steps are in their table.
 use Prim.Native.Nat.{◌+◌, ◌*◌}
 use native.Mathlib.Omega.{arith}
-use borrow.Author.Rules.{rules}
 use Rattle.pools.specs.Pools.{chain_at}
 use Rattle.rules.proofs.Joined.{this_root, other_root}
 use Rattle.rules.proofs.rights.chain_caps.Goals as goal

@@ -1,5 +1,4 @@
 -- `rules::rights::name_caps` meets its contract: its test is that of the definition.
-use borrow.Author.Rules.{rules}
 use Rattle.rules.proofs.Joined.{plain_name, qualified_name}
 use Rattle.rules.proofs.rights.name_caps.Goals as goal
 

@@ -3,7 +3,6 @@ use mathlib.Core.List.{List}
 use mathlib.Core.Path.{ap, ◌∙◌, sym, subst}
 use Prim.Native.Nat.{ℕ, ◌<◌}
 use native.Mathlib.Omega.{arith}
-use borrow.Author.Rules.{rules}
 use Rattle.code.specs.Layout.{tag_at}
 use Rattle.code.specs.Width.{width_at}
 use Rattle.pools.specs.Pools.{chain_at}

@@ -1,5 +1,4 @@
 -- `rules::rights::step_caps` meets its contract: its tests are those of the definition.
-use borrow.Author.Rules.{rules}
 use Rattle.rules.proofs.Joined.{index_step, property_step, method_step}
 use Rattle.rules.proofs.rights.step_caps.Goals as goal
 

@@ -1,6 +1,6 @@
 -- `rules::rights::steps_caps` meets its contract. The loop's invariant: the steps from `i` on are joined. The measure is `i`.
 use native.Mathlib.Omega.{arith}
-use Rattle.rules.proofs.Joined.{Rest, none_joined, one_joined, all_joined}
+use Rattle.rules.proofs.Joined.{none_joined, one_joined, all_joined}
 use Rattle.rules.proofs.rights.steps_caps.Goals as goal
 
 pub loop-i-init : goal.loop-i-init

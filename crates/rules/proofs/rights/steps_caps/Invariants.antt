@@ -1,6 +1,5 @@
 -- `rules::rights::steps_caps` meets its contract. The loop's invariant: the steps from `i` on are joined. The measure is `i`.
-use native.Mathlib.Omega.{arith}
-use Rattle.rules.proofs.Joined.{Rest, none_joined, one_joined, all_joined}
+use Rattle.rules.proofs.Joined.{Rest}
 use Rattle.rules.proofs.rights.steps_caps.Given as goal
 
 abbrev pub invariant-loop-i : goal.invariant-loop-i

@@ -1,5 +1,4 @@
 -- `rules::shapes::flow_of` meets its contract: the flow is a digit of the word.
-use borrow.Author.Rules.{rules}
 use Rattle.rules.proofs.shapes.flow_of.Goals as goal
 
 pub returns : goal.returns

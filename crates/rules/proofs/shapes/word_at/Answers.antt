@@ -1,5 +1,4 @@
 -- `rules::shapes::word_at` meets its contract: an instruction that has its width has its tag.
-use borrow.Author.Rules.{rules}
 use Rattle.rules.proofs.Operands.{tag_there}
 use Rattle.rules.proofs.shapes.word_at.Goals as goal
 
