@@ -34,6 +34,7 @@ module _ (size : ℕ → ℕ) where
   -- and only there
   pub fine_below : (rs : List Ref) → first_bad_ref size rs ≡ fine → AllBelow rs
   unfolding first_bad_ref
+  fine_below [] e s m = elim m [ ]
   fine_below (r ∷ rs) e s m = go (ltb r.index (size r.pool)) refl (fine_below rs) e m
     where
       go : (t : Bool) → ltb r.index (size r.pool) ≡ t → (first_bad_ref size rs ≡ fine → AllBelow rs)
@@ -81,6 +82,7 @@ module _ (size : ℕ → ℕ) (ys : List Ref) where
   fine_first xs e = below_fine size xs (λ r m. fine_below size (xs ++ ys) e r (among xs m))
     where
       among : {r : Ref} (xs : List Ref) → Memᴰ r xs → Memᴰ r (xs ++ ys)
+      among {r = r} [] x' = elim x' [ ]
       among (x ∷ xs) (Memᴰ.head q) = Memᴰ.head q
       among (x ∷ xs) (Memᴰ.tail m) = Memᴰ.tail (among xs m)
 

@@ -47,6 +47,7 @@ module _ (code : List ℕ) (at tag pool : ℕ) (has : tag_at code at ≡ tag) (o
       (mapped (indices tag) opens)
     where
       mapped : {i : Index} (is : List Index) → Memᴰ i is → Memᴰ (ref_at code at i) (map (ref_at code at) is)
+      mapped {i = i} [] x' = elim x' [ ]
       mapped (j ∷ js) (Memᴰ.head q) = Memᴰ.head (ap (ref_at code at) q)
       mapped (j ∷ js) (Memᴰ.tail m) = Memᴰ.tail (mapped js m)
 

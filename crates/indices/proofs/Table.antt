@@ -78,6 +78,7 @@ are_within w [] = true
 are_within w (i ∷ is) = leb (i.offset + 2) w && are_within w is
 
 are_within_lem : (w : ℕ) (is : List Index) → T (are_within w is) → Within w is
+are_within_lem w [] t i x'' = elim x'' [ ]
 are_within_lem w (j ∷ js) t i (Memᴰ.head q) =
     rw q (leb→le (j.offset + 2) w (left (leb (j.offset + 2) w) (are_within w js) t))
 are_within_lem w (j ∷ js) t i (Memᴰ.tail m) = are_within_lem w js (right (leb (j.offset + 2) w) (are_within w js) t) i m

@@ -16,7 +16,7 @@ mod records;
 use code::tag;
 
 // How many entries each pool holds. Of custom syntax sites there are none.
-#[derive(Drop)]
+#[derive(Clone, Copy)]
 pub struct Sizes {
     pub constants: usize,
     pub names: usize,
