@@ -35,6 +35,7 @@ use Rattle.demand.proofs.Says.{no_next, goes, says}
 -- the targets of a listed place are among all of them
 target_listed : (S : Script) (ps : List ℕ) {p t : ℕ} → p ∈ ps → t ∈ targets S p → t ∈ all_targets S ps
 unfolding all_targets
+target_listed S mathlib.Core.List.[] {p = p} {t = t} x'' m = elim x'' [ ]
 target_listed S (q ∷ ps) {p} {t} (here e) m = Memᴰ.append_left (all_targets S ps) (rw e at m)
 target_listed S (q ∷ ps) (there k) m = Memᴰ.append_right (targets S q) (target_listed S ps k m)
 
