@@ -53,7 +53,8 @@ module _ (size : ℕ → ℕ) {A : Type 0} (entry : ℕ → A) (refsOf : A → L
         ≡ first_bad_ref size (of first count)
     all h = sym (ap (first_bad_ref size) (split end i h)) ∙ turn.left
 
-    module _ (h : i < end) {checked : Checked} (found : checked_told checked ≡ first_bad_ref size (refsOf (entry i))) where
+    module _ (h : i < end) {checked : Checked}
+        (found : checked_told checked ≡ first_bad_ref size (refsOf (entry i))) where
       -- one that is fine is passed
       pub next : checked ≡ Fine → Turn first count end (i + 1)
       next e = record {

@@ -113,10 +113,12 @@ module _ (t : Tables) (code : List ℕ) (at : ℕ) where
   no_record c s = rw (ne_eqb _ _ c, ne_eqb _ _ s)
 
 -- the index of its record can be read
-pub chain_read : (code : List ℕ) (at : ℕ) → tag_at code at ≡ byte CHAIN → 0 < width_at code at → at + 1 + 2 ≤ length code
+pub chain_read : (code : List ℕ) (at : ℕ) → tag_at code at ≡ byte CHAIN → 0 < width_at code at
+    → at + 1 + 2 ≤ length code
 chain_read code at has = opening_within code at (byte CHAIN) chains has chain_opens (lit< tt)
 
-pub switch_read : (code : List ℕ) (at : ℕ) → tag_at code at ≡ byte SWITCH → 0 < width_at code at → at + 1 + 2 ≤ length code
+pub switch_read : (code : List ℕ) (at : ℕ) → tag_at code at ≡ byte SWITCH → 0 < width_at code at
+    → at + 1 + 2 ≤ length code
 switch_read code at has = opening_within code at (byte SWITCH) switches has switch_opens (lit< tt)
 
 -- ---- where none of its own indices is bad
@@ -134,7 +136,8 @@ module _ (s : Sizes) (code : List ℕ) (at : ℕ) (own : first_bad_ref (size_of 
   -- and with a name by whose flag its rights go
   pub name_below : among (tag_at code at) (bytes qualifiable) ≡ true → index_at code at < s.names
   unfolding size_of
-  name_below e = opening_below code at (tag_at code at) names refl (qualifiable_opens (tag_at code at) e) (size_of s) own
+  name_below e =
+      opening_below code at (tag_at code at) names refl (qualifiable_opens (tag_at code at) e) (size_of s) own
 
   -- of sites there are none to name
   site_below : tag_at code at ≡ byte CUSTOM_SYNTAX → index_at code at < 0

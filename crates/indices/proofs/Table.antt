@@ -81,7 +81,8 @@ are_within_lem : (w : ℕ) (is : List Index) → T (are_within w is) → Within 
 are_within_lem w [] t i x'' = elim x'' [ ]
 are_within_lem w (j ∷ js) t i (Memᴰ.head q) =
     rw q (leb→le (j.offset + 2) w (left (leb (j.offset + 2) w) (are_within w js) t))
-are_within_lem w (j ∷ js) t i (Memᴰ.tail m) = are_within_lem w js (right (leb (j.offset + 2) w) (are_within w js) t) i m
+are_within_lem w (j ∷ js) t i (Memᴰ.tail m) =
+    are_within_lem w js (right (leb (j.offset + 2) w) (are_within w js) t) i m
 
 is_within : ℕ → ℕ → Bool
 unfolding width_of layout among indices_from

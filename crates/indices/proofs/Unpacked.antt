@@ -70,7 +70,8 @@ module _ (code : List ℕ) (at e : ℕ) (is : unpacked e ≡ indices (tag_at cod
     both some = ap (first_bad_ref size) (rw (ne_eqb e 0 some) at all)
 
     module _ (some : e ≡ 0 → ⊥) {first : Checked} (found : checked_told first ≡ first_bad_ref size head) where
-      pub first_bad : {index pool : ℕ} → first ≡ Bad index pool → checked_told first ≡ first_bad_ref size (in_code code at)
+      pub first_bad : {index pool : ℕ} → first ≡ Bad index pool
+          → checked_told first ≡ first_bad_ref size (in_code code at)
       first_bad b = stops size tail head found b ∙ both some
 
       rest : first ≡ Fine → first_bad_ref size tail ≡ first_bad_ref size (in_code code at)

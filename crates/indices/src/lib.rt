@@ -56,9 +56,8 @@ pub fn check_indices(
 ) -> Checked
     requires at_nonzero { 0 < width_at code.now at }
     requires sound { Sound sizes (tables chains.now steps.now switches.now cases.now) }
-    ensures { checked_told result ≡ first_bad_ref (size_of sizes) (refs
-        (tables chains.now steps.now switches.now cases.now)
-        code.now at) }
+    ensures { checked_told result ≡ first_bad_ref (size_of sizes)
+        (refs (tables chains.now steps.now switches.now cases.now) code.now at) }
 {
     let own = fields::check_fields(code, at, sizes);
     if let Checked::Bad { .. } = own {

@@ -1,17 +1,17 @@
--- `indices::check_indices` meets its contract: where the instruction's own indices are fine the record that it names is there,
--- and the answer is the record's.
+-- `indices::check_indices` meets its contract: where the instruction's own indices are fine the record that it
+-- names is there, and the answer is the record's.
 use mathlib.Core.List.{List}
 use mathlib.Core.Path.{◌≡◌, sym, ap, ◌∙◌}
 use Prim.Native.Nat.{ℕ}
 use native.Mathlib.Omega.{arith}
-use borrow.Author.Rules.{rules}
 use Rattle.code.specs.Width.{width_of}
 use Rattle.code.proofs.Widths.{width_there}
 use Rattle.pools.specs.Told.{fine}
 use Rattle.indices.specs.Indices.{Tables, size_of, in_code, in_record, refs, first_bad_ref}
 use Rattle.indices.specs.Checks.{tables, checked_told}
 use Rattle.indices.proofs.Laws.{goes_on, stops}
-use Rattle.indices.proofs.Named.{chain_read, switch_read, chain_entry, switch_entry, chain_record, switch_record, no_record}
+use Rattle.indices.proofs.Named.{chain_read, switch_read, chain_entry, switch_entry}
+use Rattle.indices.proofs.Named.{chain_record, switch_record, no_record}
 use Rattle.indices.specs.declared.Checked.{Checked}
 use Rattle.indices.specs.declared.Checked.TheVariants.{Fine}
 use Rattle.indices.specs.declared.Sizes.{Sizes}

@@ -1,6 +1,5 @@
 -- `indices::fields::check_field` meets its contract: the digits say where the index stands and how large its pool is.
 use Rattle.indices.specs.Indices.{first_bad_ref}
-use borrow.Author.Rules.{rules}
 use Rattle.indices.proofs.fields.check_field.Goals as goal
 
 pub returns : goal.returns

@@ -1,10 +1,6 @@
--- `indices::fields::check_fields` meets its contract: the table's entry says where the indices stand, and the first of them
--- that is bad is the answer.
-use mathlib.Core.List.{List}
+-- `indices::fields::check_fields` meets its contract: the table's entry says where the indices stand, and the first of
+-- them that is bad is the answer.
 use mathlib.Core.Path.{◌∙◌}
-use Prim.Native.Nat.{ℕ, ◌<◌}
-use borrow.Author.Rules.{rules}
-use Rattle.code.specs.Layout.{tag_at}
 use Rattle.code.specs.Width.{width_of}
 use Rattle.code.proofs.Widths.{width_there}
 use Rattle.indices.specs.Checks.{checked_told}

@@ -1,5 +1,4 @@
 -- `indices::fields::field_row` meets its contract: twenty rows, and nothing past them.
-use borrow.Author.Rules.{rules}
 use Rattle.code.proofs.Packed.{no_arm}
 use Rattle.indices.specs.Fields.{index_rows}
 use Rattle.indices.proofs.fields.field_row.Goals as goal

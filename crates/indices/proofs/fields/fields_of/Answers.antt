@@ -1,4 +1,5 @@
--- `indices::fields::fields_of` meets its contract: a tag's part of its row is the entry of the table, which passes the test.
+-- `indices::fields::fields_of` meets its contract: a tag's part of its row is the entry of the table, which
+-- passes the test.
 use mathlib.Core.Path.{ap, ◌∙◌}
 use Prim.Native.Nat.{ℕ}
 use borrow.Author.Rules.{rules}

@@ -30,11 +30,12 @@ returns-in-6 c = rw c.in-6.is
 pub returns-in_default : goal.returns-in_default
 unfolding size_of
 returns-in_default c =
+    let others = c.in_default.in_default-own.rest in
     simp (
-      ne_eqb _ _ c.in_default.in_default-own.rest.1,
-      ne_eqb _ _ c.in_default.in_default-own.rest.0.1,
-      ne_eqb _ _ c.in_default.in_default-own.rest.0.0.1,
-      ne_eqb _ _ c.in_default.in_default-own.rest.0.0.0.1,
-      ne_eqb _ _ c.in_default.in_default-own.rest.0.0.0.0.1,
-      ne_eqb _ _ c.in_default.in_default-own.rest.0.0.0.0.0.1,
+      ne_eqb _ _ others.1,
+      ne_eqb _ _ others.0.1,
+      ne_eqb _ _ others.0.0.1,
+      ne_eqb _ _ others.0.0.0.1,
+      ne_eqb _ _ others.0.0.0.0.1,
+      ne_eqb _ _ others.0.0.0.0.0.1,
     )

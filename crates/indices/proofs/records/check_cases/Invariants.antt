@@ -1,11 +1,8 @@
 -- `indices::records::check_cases` meets its contract. The loop's measure is how many cases are left.
 use Prim.Native.Nat.{◌-◌}
-use native.Mathlib.Omega.{arith}
-use borrow.Author.Rules.{rules}
 use Rattle.pools.specs.Pools.{case_at}
 use Rattle.indices.specs.Indices.{size_of, case_refs}
-use Rattle.indices.specs.Checks.{checked_told}
-use Rattle.indices.proofs.InTurn.{Turn, starts, next, bad_here, done}
+use Rattle.indices.proofs.InTurn.{Turn}
 use Rattle.indices.proofs.records.check_cases.Given as goal
 
 abbrev pub invariant-loop-case : goal.invariant-loop-case

@@ -1,6 +1,5 @@
 -- `indices::records::check_chain_indices` meets its contract: a part that is fine leaves the answer to the next.
 use mathlib.Core.Path.{◌∙◌}
-use borrow.Author.Rules.{rules}
 use Rattle.pools.specs.Pools.{chain_at}
 use Rattle.indices.specs.Indices.{chain_refs}
 use Rattle.indices.proofs.Laws.{goes_on, stops}

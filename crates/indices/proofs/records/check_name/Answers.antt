@@ -1,6 +1,5 @@
 -- `indices::records::check_name` meets its contract: the pool of names is as large as there are names.
 use Rattle.indices.specs.Indices.{size_of, first_bad_ref}
-use borrow.Author.Rules.{rules}
 use Rattle.indices.proofs.records.check_name.Goals as goal
 
 pub returns : goal.returns

@@ -1,7 +1,6 @@
 -- `indices::records::check_property` meets its contract: a name that is fine leaves the answer to the next.
 use mathlib.Core.List.{[], ◌∷◌}
 use mathlib.Core.Path.{◌∙◌}
-use borrow.Author.Rules.{rules}
 use Rattle.indices.proofs.Laws.{goes_on, stops}
 use Rattle.indices.proofs.records.check_property.Goals as goal
 

@@ -1,6 +1,5 @@
 -- `indices::records::check_root` meets its contract: its test is the definition's.
 use borrow.Author.Tests.{le-leb, lt-leb}
-use borrow.Author.Rules.{rules}
 use Rattle.indices.specs.Indices.{root_refs, first_bad_ref}
 use Rattle.indices.specs.Checks.{checked_told}
 use Rattle.indices.proofs.records.check_root.Goals as goal

@@ -1,11 +1,6 @@
 -- `indices::records::check_steps` meets its contract. The loop's measure is how many steps are left.
-use Prim.Native.Nat.{◌-◌}
-use native.Mathlib.Omega.{arith}
-use borrow.Author.Rules.{rules}
-use Rattle.pools.specs.Pools.{step_at}
-use Rattle.indices.specs.Indices.{size_of, step_refs}
 use Rattle.indices.specs.Checks.{checked_told}
-use Rattle.indices.proofs.InTurn.{Turn, starts, next, bad_here, done}
+use Rattle.indices.proofs.InTurn.{starts, next, bad_here, done}
 use Rattle.indices.proofs.records.check_steps.Goals as goal
 
 pub loop-step-init : goal.loop-step-init

@@ -1,11 +1,8 @@
 -- `indices::records::check_steps` meets its contract. The loop's measure is how many steps are left.
 use Prim.Native.Nat.{◌-◌}
-use native.Mathlib.Omega.{arith}
-use borrow.Author.Rules.{rules}
 use Rattle.pools.specs.Pools.{step_at}
 use Rattle.indices.specs.Indices.{size_of, step_refs}
-use Rattle.indices.specs.Checks.{checked_told}
-use Rattle.indices.proofs.InTurn.{Turn, starts, next, bad_here, done}
+use Rattle.indices.proofs.InTurn.{Turn}
 use Rattle.indices.proofs.records.check_steps.Given as goal
 
 abbrev pub invariant-loop-step : goal.invariant-loop-step

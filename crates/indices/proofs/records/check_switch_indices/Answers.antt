@@ -1,5 +1,4 @@
 -- `indices::records::check_switch_indices` meets its contract: a switch names what its cases name.
-use borrow.Author.Rules.{rules}
 use Rattle.pools.specs.Pools.{switch_at}
 use Rattle.indices.specs.Indices.{switch_refs}
 use Rattle.indices.proofs.records.check_switch_indices.Goals as goal

@@ -1,6 +1,5 @@
 -- `indices::records::check_tail` meets its contract: its test is the definition's.
 use borrow.Author.Tests.{eq-eqb, ne_eqb}
-use borrow.Author.Rules.{rules}
 use Rattle.indices.specs.Indices.{size_of, tail_refs, first_bad_ref}
 use Rattle.indices.specs.Checks.{checked_told}
 use Rattle.indices.proofs.records.check_tail.Goals as goal
