@@ -2,4 +2,3 @@
 // There is no code here. specs/ says what is demanded and how a chunk is judged; proofs/Demand.antt, that these agree.
 // The code that judges a chunk is left to the crates above.
 #![tactic(auto)]
-
