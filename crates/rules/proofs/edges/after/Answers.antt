@@ -23,4 +23,5 @@ returns-in-2 c = λ tag f. after_of_lem f _ _ _ 2 c.in-2.is
 pub returns-in_default : goal.returns-in_default
 returns-in_default c =
     λ tag f. after_rest f _ _ _
-    c.in_default.in_default-own.rest.0.0.0.1 c.in_default.in_default-own.rest.0.0.1 c.in_default.in_default-own.rest.0.1 c.in_default.in_default-own.rest.1
+    c.in_default.in_default-own.rest.0.0.0.1 c.in_default.in_default-own.rest.0.0.1
+    c.in_default.in_default-own.rest.0.1 c.in_default.in_default-own.rest.1

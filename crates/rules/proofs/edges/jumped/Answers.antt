@@ -12,4 +12,5 @@ pub returns-in-5 : goal.returns-in-5
 returns-in-5 c = λ tag f. jumped_of_lem f _ _ 5 c.in-5.is
 
 pub returns-in_default : goal.returns-in_default
-returns-in_default c = λ tag f. jumped_rest f _ _ c.in_default.in_default-own.rest.0.1 c.in_default.in_default-own.rest.1
+returns-in_default c =
+    λ tag f. jumped_rest f _ _ c.in_default.in_default-own.rest.0.1 c.in_default.in_default-own.rest.1
