@@ -22,8 +22,11 @@ has_chain-requires c = wide_of _ _ (sym c.has_width.ensures ∙ c.if-not-has_wid
 pub returns-then-not-has_chain : goal.returns-then-not-has_chain
 unfolding is_there
 returns-then-not-has_chain c =
-    simp (sym c.has_width.ensures ∙ c.if-not-has_width.false, sym c.has_name.ensures ∙ c.if-not-has_name.false,
-    sym c.has_chain.ensures ∙ c.if-not-has_chain.true)
+    simp (
+      sym c.has_width.ensures ∙ c.if-not-has_width.false,
+      sym c.has_name.ensures ∙ c.if-not-has_name.false,
+      sym c.has_chain.ensures ∙ c.if-not-has_chain.true,
+    )
 
 pub has_switch-requires : goal.has_switch-requires
 has_switch-requires c = wide_of _ _ (sym c.has_width.ensures ∙ c.if-not-has_width.false)
@@ -31,5 +34,8 @@ has_switch-requires c = wide_of _ _ (sym c.has_width.ensures ∙ c.if-not-has_wi
 pub returns : goal.returns
 unfolding is_there
 returns c =
-    simp (sym c.has_width.ensures ∙ c.if-not-has_width.false, sym c.has_name.ensures ∙ c.if-not-has_name.false,
-    sym c.has_chain.ensures ∙ c.if-not-has_chain.false) c.has_switch.ensures
+    simp (
+      sym c.has_width.ensures ∙ c.if-not-has_width.false,
+      sym c.has_name.ensures ∙ c.if-not-has_name.false,
+      sym c.has_chain.ensures ∙ c.if-not-has_chain.false,
+    ) c.has_switch.ensures

@@ -12,7 +12,7 @@ use Rattle.rules.proofs.Targets.{Aims, arm_index, arm_whole, arm_below, arm_targ
 use Rattle.rules.proofs.edges.jump_target.Goals as goal
 
 -- what the caller knows of the number of the target
-aims : (code switches cases ranges : List ℕ) (at k : ℕ) → 0 < width_at code at 
+aims : (code switches cases ranges : List ℕ) (at k : ℕ) → 0 < width_at code at
     → SwitchThere code switches cases ranges at
     → k < length (targets_of code switches cases ranges at) → Aims code switches cases ranges at k
 aims code switches cases ranges at k wide there below = record { wide = wide; switch_whole = there; below = below }

@@ -14,7 +14,7 @@ use Rattle.rules.proofs.Targets.{end_count}
 use Rattle.rules.proofs.edges.target_count.Goals as goal
 
 -- what the caller knows
-leads : (code switches : List ℕ) (at flow : ℕ) → 0 < width_at code at → Flow (tag_at code at) flow 
+leads : (code switches : List ℕ) (at flow : ℕ) → 0 < width_at code at → Flow (tag_at code at) flow
     → SwitchEntry code switches at → Leads code switches at flow
 leads code switches at flow wide flows there = record { wide = wide; flows = flows; switch_entry = there }
 
