@@ -1,7 +1,6 @@
 -- `guards::has_chain` meets its contract: its tests are those of the definition, in the same order.
 use mathlib.Core.Path.{◌∙◌}
 use native.Mathlib.Omega.{arith}
-use borrow.Author.Rules.{rules}
 use Rattle.rules.proofs.Operands.{tag_there, chain_there}
 use Rattle.guards.proofs.Found.{no_chain_asked, chain_past, chain_within}
 use Rattle.guards.proofs.has_chain.Goals as goal

@@ -2,7 +2,6 @@
 use mathlib.Core.Path.{◌∙◌, sym}
 use Prim.Native.Nat.{◌+◌, ◌≤◌}
 use native.Mathlib.Omega.{arith}
-use borrow.Author.Rules.{rules}
 use lib.ListN.{length}
 use Rattle.rules.proofs.Operands.{tag_there}
 use Rattle.guards.proofs.Found.{no_name_asked, name_asked, name_index}

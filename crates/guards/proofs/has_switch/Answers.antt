@@ -1,7 +1,6 @@
 -- `guards::has_switch` meets its contract: its tests are those of the definition, in the same order.
 use mathlib.Core.Path.{◌∙◌, sym}
 use native.Mathlib.Omega.{arith}
-use borrow.Author.Rules.{rules}
 use Rattle.rules.proofs.Operands.{tag_there, switch_there}
 use Rattle.guards.proofs.Found.{no_switch_asked, switch_past, cases_past, switch_within}
 use Rattle.guards.proofs.has_switch.Goals as goal
@@ -19,7 +18,8 @@ pub read_u16-i-requires : goal.read_u16-i-requires
 read_u16-i-requires c = omega (arith, switch_there _ _ c.requires c.if-code-at-ne-SWITCH.false)
 
 pub returns-then-switches-i : goal.returns-then-switches-i
-returns-then-switches-i c = switch_past _ _ _ _ _ c.if-code-at-ne-SWITCH.false _ c.read_u16-i.ensures c.if-switches-i.true
+returns-then-switches-i c =
+    switch_past _ _ _ _ _ c.if-code-at-ne-SWITCH.false _ c.read_u16-i.ensures c.if-switches-i.true
 
 pub returns-then-not-lie_within : goal.returns-then-not-lie_within
 returns-then-not-lie_within c =

@@ -1,6 +1,4 @@
 -- `guards::has_width` meets its contract: a width that is told is not 0.
-use mathlib.Core.Path.{◌∙◌, ap, sym}
-use borrow.Author.Rules.{rules}
 use Rattle.code.specs.Answers.{width_told}
 use Rattle.guards.proofs.Found.{width_found, no_width}
 use Rattle.guards.proofs.has_width.Goals as goal

@@ -1,4 +1,5 @@
 -- `rules::edges::after` meets its contract: the flow tells what becomes of the iterators and handlers.
+use borrow.Author.Rules.{rules}
 use Rattle.rules.proofs.Flows.{drop_held, handler_held, after_of_lem, after_rest}
 use Rattle.rules.proofs.edges.after.Goals as goal
 
@@ -21,6 +22,4 @@ pub returns-in-2 : goal.returns-in-2
 returns-in-2 c = λ tag f. after_of_lem f _ _ _ 2 c.in-2.is
 
 pub returns-in_default : goal.returns-in_default
-returns-in_default c =
-    λ tag f. after_rest f _ _ _
-    c.in_default.in_default-own.rest.0.0.0.1 c.in_default.in_default-own.rest.0.0.1 c.in_default.in_default-own.rest.0.1 c.in_default.in_default-own.rest.1
+returns-in_default c = λ tag f. after_rest f _ _ _ (search rules) (search rules) (search rules) (search rules)

@@ -20,28 +20,47 @@ asked code names chains steps at word wide asks name_there chain_there =
     record { wide = wide; asks = asks; name_there = name_there; chain_whole = chain_there }
 
 pub returns-then-decides-eq0 : goal.returns-then-decides-eq0
-returns-then-decides-eq0 c = word_rights (asked _ _ _ _ _ _ c.requires.at_nonzero (c.asks_of-asked.ensures _ c.requires.shape) c.requires.name_there c.requires.chain_there) c.if-decides-eq0.true
+returns-then-decides-eq0 c =
+    let a = asked _ _ _ _ _ _ c.requires.at_nonzero
+    (c.asks_of-asked.ensures _ c.requires.shape) c.requires.name_there c.requires.chain_there in
+    word_rights a c.if-decides-eq0.true
 
 pub overflow_add-at : goal.overflow_add-at
-overflow_add-at c = omega (arith, index_decided (asked _ _ _ _ _ _ c.requires.at_nonzero (c.asks_of-asked.ensures _ c.requires.shape) c.requires.name_there c.requires.chain_there) c.if-decides-eq0.false)
+overflow_add-at c =
+    let a = asked _ _ _ _ _ _ c.requires.at_nonzero
+    (c.asks_of-asked.ensures _ c.requires.shape) c.requires.name_there c.requires.chain_there in
+    omega (arith, index_decided a c.if-decides-eq0.false)
 
 pub read_u16-i-requires : goal.read_u16-i-requires
-read_u16-i-requires c = omega (arith, index_decided (asked _ _ _ _ _ _ c.requires.at_nonzero (c.asks_of-asked.ensures _ c.requires.shape) c.requires.name_there c.requires.chain_there) c.if-decides-eq0.false)
+read_u16-i-requires c =
+    let a = asked _ _ _ _ _ _ c.requires.at_nonzero
+    (c.asks_of-asked.ensures _ c.requires.shape) c.requires.name_there c.requires.chain_there in
+    omega (arith, index_decided a c.if-decides-eq0.false)
 
 pub name_caps-requires : goal.name_caps-requires
-name_caps-requires c = omega (arith, c.read_u16-i.ensures, named_there (asked _ _ _ _ _ _ c.requires.at_nonzero (c.asks_of-asked.ensures _ c.requires.shape) c.requires.name_there c.requires.chain_there) c.if-decides-eq1.true)
+name_caps-requires c =
+    let a = asked _ _ _ _ _ _ c.requires.at_nonzero
+    (c.asks_of-asked.ensures _ c.requires.shape) c.requires.name_there c.requires.chain_there in
+    omega (arith, c.read_u16-i.ensures, named_there a c.if-decides-eq1.true)
 
 pub returns-then-decides-eq1 : goal.returns-then-decides-eq1
 returns-then-decides-eq1 c =
-    name_rights (asked _ _ _ _ _ _ c.requires.at_nonzero (c.asks_of-asked.ensures _ c.requires.shape) c.requires.name_there c.requires.chain_there) c.if-decides-eq1.true _
+    let a = asked _ _ _ _ _ _ c.requires.at_nonzero
+    (c.asks_of-asked.ensures _ c.requires.shape) c.requires.name_there c.requires.chain_there in
+    name_rights a c.if-decides-eq1.true _
     (c.name_caps.ensures ∙ ap (λ (i : ℕ). of_name c.args.names.now i) c.read_u16-i.ensures)
 
 pub chain_caps-requires : goal.chain_caps-requires
 chain_caps-requires c =
+    let a = asked _ _ _ _ _ _ c.requires.at_nonzero
+    (c.asks_of-asked.ensures _ c.requires.shape) c.requires.name_there c.requires.chain_there in
     subst (λ (i : ℕ). ChainWhole c.args.chains.now c.args.steps.now i) (sym c.read_u16-i.ensures)
-    (chained_there (asked _ _ _ _ _ _ c.requires.at_nonzero (c.asks_of-asked.ensures _ c.requires.shape) c.requires.name_there c.requires.chain_there) c.if-decides-eq0.false c.if-decides-eq1.false)
+    (chained_there a c.if-decides-eq0.false c.if-decides-eq1.false)
 
 pub returns : goal.returns
 returns c =
-    chain_rights (asked _ _ _ _ _ _ c.requires.at_nonzero (c.asks_of-asked.ensures _ c.requires.shape) c.requires.name_there c.requires.chain_there) c.if-decides-eq0.false c.if-decides-eq1.false _
-    (c.chain_caps.ensures ∙ ap (λ (i : ℕ). of_chain c.args.steps.now (chain_at c.args.chains.now i)) c.read_u16-i.ensures)
+    let a = asked _ _ _ _ _ _ c.requires.at_nonzero
+    (c.asks_of-asked.ensures _ c.requires.shape) c.requires.name_there c.requires.chain_there in
+    chain_rights a c.if-decides-eq0.false c.if-decides-eq1.false _
+    (c.chain_caps.ensures
+    ∙ ap (λ (i : ℕ). of_chain c.args.steps.now (chain_at c.args.chains.now i)) c.read_u16-i.ensures)
