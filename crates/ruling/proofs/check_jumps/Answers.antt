@@ -1,8 +1,6 @@
--- `ruling::check_jumps` meets its contract. The caller has counted the targets, so in a turn there is a target of this number.
-use Prim.Native.Nat.{◌<◌}
+-- `ruling::check_jumps` meets its contract. The caller has counted the targets, so in a turn there is a target of this
+-- number.
 use native.Mathlib.Omega.{arith}
-use lib.ListN.{length}
-use Rattle.rules.specs.Edges.{targets_of}
 use Rattle.answer.specs.Answer.{told}
 use Rattle.rules.specs.FromLists.{script}
 use Rattle.ruling.proofs.Jumps.{none_yet, one_more, refused, all_good}
@@ -17,13 +15,13 @@ jump_target-target-requires-clause-k_in_bounds c = omega (arith, c.loop-k-test.t
 pub returns-in-Refused : goal.returns-in-Refused
 returns-in-Refused c =
     λ rights names chains steps declared d.
-    refused c.loop-k.invariant (omega (arith, c.loop-k-test.true, c.requires.count_value)) c.jump_target-target.ensures c.go-judged.ensures
-    c.in-Refused.is (script rights names chains steps _ _ _ _) declared d c.requires.holds
+    refused c.loop-k.invariant (omega (arith, c.loop-k-test.true, c.requires.count_value)) c.jump_target-target.ensures
+    c.go-judged.ensures c.in-Refused.is (script rights names chains steps _ _ _ _) declared d c.requires.holds
 
 pub loop-k-preserved : goal.loop-k-preserved
 loop-k-preserved c =
-    one_more c.loop-k.invariant (omega (arith, c.loop-k-test.true, c.requires.count_value)) c.jump_target-target.ensures c.go-judged.ensures
-    c.in_default.is
+    one_more c.loop-k.invariant (omega (arith, c.loop-k-test.true, c.requires.count_value)) c.jump_target-target.ensures
+    c.go-judged.ensures c.in_default.is
 
 pub returns : goal.returns
 unfolding told

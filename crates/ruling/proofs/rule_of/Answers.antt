@@ -3,7 +3,6 @@ use mathlib.Core.Bool.{true}
 use mathlib.Core.Path.{◌≡◌, sym, ◌∙◌}
 use Prim.Native.Nat.{◌+◌, ◌≤◌}
 use native.Mathlib.Omega.{arith}
-use borrow.Author.Rules.{rules}
 use lib.ListN.{length}
 use Rattle.code.specs.Layout.{tag_at}
 use Rattle.pools.proofs.Most.{code_small}
@@ -34,8 +33,8 @@ overflow_cast-next c = omega (arith, within c, c.requires.code_len_bound, code_s
 pub settle-requires : goal.settle-requires
 settle-requires c =
     settles {chains = c.args.chains.now} c.requires.at_nonzero (flows c)
-    (c.fixed_effect-effect.ensures _ _ _ c.requires.shape (is c) c.requires.at_nonzero) c.requires.operands_bound c.requires.iterators_bound
-    c.requires.handlers_bound
+    (c.fixed_effect-effect.ensures _ _ _ c.requires.shape (is c) c.requires.at_nonzero)
+    c.requires.operands_bound c.requires.iterators_bound c.requires.handlers_bound
 
 pub returns-then-is_simple : goal.returns-then-is_simple
 returns-then-is_simple c =
@@ -51,11 +50,11 @@ effect-effect-requires-clause-chain_entry c = chain_entry_of c.requires.chain_th
 -- any other
 pub settle-requires-2 : goal.settle-requires-2
 settle-requires-2 c =
-    settles c.requires.at_nonzero (c.flow_of-flow.ensures _ c.requires.shape) c.effect-effect.ensures c.requires.operands_bound
-    c.requires.iterators_bound c.requires.handlers_bound
+    settles c.requires.at_nonzero (c.flow_of-flow.ensures _ c.requires.shape) c.effect-effect.ensures
+    c.requires.operands_bound c.requires.iterators_bound c.requires.handlers_bound
 
 pub returns : goal.returns
 returns c =
     λ switches cases ranges entry declared.
-    rule_settled _ _ _ _ (rw c.required_caps-needed.ensures at c.lacking-missing.ensures) c.effect-effect.ensures c.requires.at_nonzero
-    (c.width_in.ensures _ c.requires.shape) (c.settle-2.ensures _ (c.flow_of-flow.ensures _ c.requires.shape))
+    rule_settled _ _ _ _ (rw c.required_caps-needed.ensures at c.lacking-missing.ensures) c.effect-effect.ensures
+    c.requires.at_nonzero (c.width_in.ensures _ c.requires.shape) (c.settle-2.ensures _ (c.flow_of-flow.ensures _ c.requires.shape))

@@ -1,5 +1,4 @@
 -- `ruling::settle` meets its contract: the tests decide, or else the way on is left to say.
-use borrow.Author.Rules.{rules}
 use Rattle.ruling.proofs.Tests.{enough, held_by, pops_there, pushes_fit, stops, goes_on}
 use Rattle.ruling.proofs.settle.Goals as goal
 
