@@ -1,57 +1,69 @@
--- The digits that `io` writes are those of the definition: the fewest that hold the number.
-use mathlib.Core.Bool.{Bool, true, false}
-use mathlib.Core.List.{List, [], ◌∷◌, ◌++◌}
-use mathlib.Core.Path.{◌≡◌, refl, ap, ◌∙◌}
-use Prim.Native.Nat.{ℕ, zero, suc, ◌+◌, ◌-◌, ◌*◌, ◌/◌, ◌%◌, ◌^◌, ◌≤◌, ◌<◌}
-use native.Mathlib.Nat.{mod-lt, mod-eq_of_lt, pow-suc, div-lt_iff_lt-mul, le-div_iff_mul-le, div-lt_self, one-le-pow, pow-le-pow_right}
+-- The digits of a number are those of what is left without its last digit, and that digit; one below ten is its own.
+use mathlib.Core.Bool.{Bool, true, false, cond}
+use mathlib.Core.List.{List, [], ◌∷◌, ◌++◌, append_assoc}
+use mathlib.Core.Path.{◌≡◌, refl, sym, ap, ◌∙◌}
+use Prim.Native.Nat.{ℕ, zero, suc, ◌+◌, ◌-◌, ◌/◌, ◌%◌, ◌^◌, ◌≤◌, ◌<◌}
+use native.Mathlib.Numerals.{add-one}
+use native.Mathlib.Nat.{pow-suc, div-lt_iff_lt-mul, div-lt_self}
 use native.Mathlib.Omega.{arith}
-use borrow.Author.Tests.{lt-ltb, le-ltb, leb-true, leb-false}
-use lib.Dec.{leb}
-use Rattle.io.specs.Digits.{hex_digit_ascii, IsDigitCount}
-use Rattle.io.specs.Digits as io
+use borrow.Author.Tests.{lt-ltb, le-ltb, ltb-false}
+use lib.Dec.{ltb}
+use lib.ListN.{length, take, drop, set, length-set, length-drop}
+use lib.Seq.{take_all}
+use Rattle.std.proofs.lemmas.List.{drop-set}
 use Rattle.list.specs.Text.{digit, decimal_digits, decimal}
 
-glyph_digit : (d : ℕ) → d < 10 → hex_digit_ascii d ≡ digit d
-glyph_digit d h = rw (lt-ltb d 10 h)
-
-same_digits : (k most n : ℕ) → IsDigitCount 10 1 n k → n < most → io.last_digits 10 k n ≡ decimal_digits most n
+-- more digits at most are the same digits, where a number has no more than itself and one
+enough : (k m n : ℕ) → n < k → n < m → decimal_digits k n ≡ decimal_digits m n
 unfolding decimal_digits
-same_digits zero most n f h = absurd (omega (arith, f.0))
-same_digits (suc k) zero n f h = absurd (omega arith)
-same_digits (suc zero) (suc most) n f h =
-    let small : n < 10 = omega (arith, f.1) in
-    rw (lt-ltb n 10 small, mod-eq_of_lt small) (ap (λ (d : ℕ). d ∷ []) (glyph_digit n small))
-same_digits (suc (suc k)) (suc most) n f h =
-    rw (le-ltb n 10 large)
-    (ap (λ (l : List ℕ). l ++ (hex_digit_ascii (n % 10) ∷ [])) (same_digits (suc k) most (n / 10) fewer less)
-    ∙ ap (λ (d : ℕ). decimal_digits most (n / 10) ++ (d ∷ [])) (glyph_digit (n % 10) (mod-lt n (omega arith))))
+enough zero m n h l = absurd (omega arith)
+enough (suc k) zero n h l = absurd (omega arith)
+enough (suc k) (suc m) n h l = go (ltb n 10) refl (λ less. enough k m (n / 10) (omega arith) (omega arith))
   where
-    least : 10 ^ suc k ≤ n
-    least = let e : suc (suc k) - 1 ≡ suc k = omega arith in rw e at (f.2 (omega arith))
+    go : (b : Bool) → ltb n 10 ≡ b → (n / 10 < n → decimal_digits k (n / 10) ≡ decimal_digits m (n / 10))
+        → cond b (digit n ∷ []) (decimal_digits k (n / 10) ++ (digit (n % 10) ∷ []))
+        ≡ cond b (digit n ∷ []) (decimal_digits m (n / 10) ++ (digit (n % 10) ∷ []))
+    go true e rest = refl
+    go false e rest =
+        let large : 10 ≤ n = ltb-false n 10 e in
+        ap (λ (l : List ℕ). l ++ (digit (n % 10) ∷ [])) (rest (div-lt_self {n = n} {k = 10} (omega arith) (omega arith)))
 
-    large : 10 ≤ n
-    large = omega (arith, least, pow-suc 10 k, one-le-pow k 10 (omega arith))
+pub one_digit : (n : ℕ) → n < 10 → decimal n ≡ digit n ∷ []
+unfolding decimal decimal_digits
+one_digit n h = let e : n + 1 ≡ suc n = omega arith in rw (e, lt-ltb n 10 h)
 
-    less : n / 10 < most
-    less = omega (arith, div-lt_self {n = n} {k = 10} (omega (arith, large)) (omega arith))
+pub more_digits : (n : ℕ) → 10 ≤ n → decimal n ≡ decimal (n / 10) ++ (digit (n % 10) ∷ [])
+unfolding decimal decimal_digits
+more_digits n h =
+    let e : n + 1 ≡ suc n = omega arith in
+    let less : n / 10 < n = div-lt_self {n = n} {k = 10} (omega arith) (omega arith) in
+    rw (e, le-ltb n 10 h) (ap (λ (l : List ℕ). l ++ (digit (n % 10) ∷ [])) (enough n (n / 10 + 1) (n / 10) less (omega arith)))
 
-    fewer : IsDigitCount 10 1 (n / 10) (suc k)
-    fewer = (
-      omega arith,
-      (div-lt_iff_lt-mul {k = 10} {x = n} {y = 10 ^ suc k} (omega arith)).1 (rw (pow-suc 10 (suc k)) at f.1),
-      λ more. let e : suc k - 1 ≡ k = omega arith in rw e ((le-div_iff_mul-le {k = 10} {x = 10 ^ k} {y = n} (omega arith)).1 (rw (pow-suc 10 k) at least)),
-    )
+-- the last digit is written, and those before it are left
+pub digit_written : (n rest first : ℕ) (digits : List ℕ) → 10 ≤ rest → first < length digits
+    → decimal n ≡ decimal rest ++ drop (first + 1) digits
+    → decimal n ≡ decimal (rest / 10) ++ drop first (set digits first (digit (rest % 10)))
+digit_written n rest first digits l h e =
+    e ∙ ap (λ (t : List ℕ). t ++ drop (first + 1) digits) (more_digits rest l)
+    ∙ append_assoc (decimal (rest / 10)) (digit (rest % 10) ∷ []) (drop (first + 1) digits)
+    ∙ ap (λ (t : List ℕ). decimal (rest / 10) ++ t) (sym (drop-set digits first (digit (rest % 10)) h))
 
-pub all_digits : (k n : ℕ) → IsDigitCount 10 1 n k → io.last_digits 10 k n ≡ decimal n
-unfolding decimal
-all_digits k n f = same_digits k (n + 1) n f (omega arith)
+-- the first digit is written, and none is left: the digits from it on are all
+pub all_written : (n rest first size : ℕ) (digits : List ℕ) → rest < 10 → first < length digits → length digits ≡ size
+    → decimal n ≡ decimal rest ++ drop (first + 1) digits
+    → take (size - first) (drop first (set digits first (digit rest))) ≡ decimal n
+all_written n rest first size digits l h s e =
+    let now = set digits first (digit rest) in
+    take_all _ _ (omega (arith, s, length-drop first now, length-set digits first (digit rest)))
+    ∙ drop-set digits first (digit rest) h
+    ∙ sym (e ∙ ap (λ (t : List ℕ). t ++ drop (first + 1) digits) (one_digit rest l))
 
--- a number of 64 bits has at most 20
-pub few_digits : (k n : ℕ) → IsDigitCount 10 1 n k → n < 2 ^ 64 → k ≤ 20
-few_digits k n f h = go (leb k 20) refl
-  where
-    go : (b : Bool) → leb k 20 ≡ b → k ≤ 20
-    go true e = leb-true k 20 e
-    go false e =
-        let more : 20 < k = leb-false k 20 e in
-        absurd (omega (arith, f.2 (omega arith), pow-le-pow_right {n = 10} (omega arith) {i = 20} {j = k - 1} (omega arith)))
+-- a number that has more digits than one has room for one more, and then for those that are left
+pub room_left : (rest first : ℕ) → 10 ≤ rest → rest < 10 ^ (first + 1) → 0 < first
+room_left rest zero l h = absurd (omega arith)
+room_left rest (suc first) l h = omega arith
+
+pub fewer_left : (rest first : ℕ) → 0 < first → rest < 10 ^ (first + 1) → rest / 10 < 10 ^ (first - 1 + 1)
+fewer_left rest first p h =
+    let e : first - 1 + 1 ≡ first = omega arith in
+    rw e ((div-lt_iff_lt-mul {k = 10} {x = rest} {y = 10 ^ first} (omega arith)).1 (rw (add-one, pow-suc 10 first) at h))

@@ -9,38 +9,40 @@
 // Numbers are decimal, and one space parts two words. Only the line of an instruction begins with a digit.
 #![tactic(auto)]
 
-ghost use Rattle.std.specs.Prelude.{◌≡◌, length};
+ghost use Rattle.std.specs.Prelude.{◌≡◌, ◌≤◌, IfOk, length};
 ghost use Rattle.code.specs.Width.{width_of};
 ghost use Rattle.listing.specs.Listing.{listed_at, stop_by};
 ghost use Rattle.reader.specs.Reading.{place_after};
 
 use pools::limits::MAX_CODE;
+use std::io::{self, Read};
 
 mod lines;
 mod names;
 mod operands;
 mod text;
 
-// Prints the line of what stands at an offset, and answers the place after it: the same where the listing ended.
-fn print_line(code: &[u8], at: usize) -> usize
-    ensures { result ≡ place_after (listed_at code.now at) at }
+// Prints the line of what stands at an offset, and answers the place after it: the same where the listing ended. The only error
+// is that of a write that failed.
+fn print_line(rt: &impl Print, code: &[u8], at: usize) -> io::Result<usize>
+    ensures { IfOk result (λ next. next ≡ place_after (listed_at code.now at) at) }
 {
     let mut line = [0u8; lines::ROOM];
     let written = lines::write_line(code, at, &mut line);
     let count = written.length;
-    io::write_all(1, &line[..count]);
-    written.next
+    rt.write_all(&line[..count])?;
+    Ok(written.next)
 }
 
-// Prints every line, and answers the offset at which the listing ended.
-fn print_lines(code: &[u8]) -> usize
-    ensures { result ≡ stop_by width_of code.now 0 }
+// Prints every line, and answers the offset at which the listing ended. The only error is that of a write that failed.
+fn print_lines(rt: &impl Print, code: &[u8]) -> io::Result<usize>
+    ensures { IfOk result (λ stop. stop ≡ stop_by width_of code.now 0) }
 {
     let mut at = 0;
     loop {
-        let next = print_line(code, at);
+        let next = print_line(rt, code, at)?;
         if next == at {
-            return at;
+            return Ok(at);
         }
         at = next;
     }
@@ -53,15 +55,30 @@ fn room() -> [u8; MAX_CODE]
     [0; MAX_CODE]
 }
 
-fn main() {
-    let mut code = room();
-    let count = io::read_full(0, &mut code);
-    let mut more = [0u8; 1];
-    if 0 < io::read_full(0, &mut more) {
-        io::write_all(1, b"more than ");
-        io::print_decimal(1, MAX_CODE as u64);
-        io::write_all(1, b" bytes\n");
-        return;
+// Reads until there is no more room or no more input, and answers how many bytes were read. The only error is that of a read that
+// failed.
+fn read_full(input: &mut impl Read, room: &mut [u8]) -> io::Result<usize>
+    ensures { IfOk result (λ count. count ≤ length room.new) }
+{
+    let mut count = 0;
+    while count < room.len() {
+        let read = input.read(&mut room[count..])?;
+        if read == 0 {
+            break;
+        }
+        count += read;
     }
-    print_lines(&code[..count]);
+    Ok(count)
+}
+
+fn main(rt: HostRuntime) -> io::Result<()> {
+    let mut input = rt.stdin();
+    let mut code = room();
+    let count = read_full(&mut input, &mut code)?;
+    let mut more = [0u8; 1];
+    if 0 < read_full(&mut input, &mut more)? {
+        return println!(rt; "more than {MAX_CODE} bytes");
+    }
+    print_lines(&rt, &code[..count])?;
+    Ok(())
 }

@@ -29,8 +29,15 @@ pub fn put_number(line: &mut [u8], at: usize, number: u64) -> usize
     ensures upper_bound { result ≤ at + 20 }
 {
     let mut digits = [0u8; 20];
-    let count = io::decimal(number, &mut digits);
-    put_bytes(line, at, &digits[..count])
+    let mut first = 19;
+    let mut rest = number;
+    while 10 <= rest {
+        digits[first] = b'0' + (rest % 10) as u8;
+        rest /= 10;
+        first -= 1;
+    }
+    digits[first] = b'0' + rest as u8;
+    put_bytes(line, at, &digits[first..])
 }
 
 // A number with a space before it.
