@@ -1,7 +1,6 @@
 -- `before::before_chunks` meets its contract: the tests before any store establish what those after it ask for.
 use mathlib.Core.Path.{refl, sym, ap, ◌∙◌}
 use native.Mathlib.Omega.{arith}
-use borrow.Author.Rules.{rules}
 use Rattle.answer.specs.Answer.{told}
 use Rattle.before.specs.Calls.{before_chunks}
 use Rattle.before.proofs.Held.{untouched, touched}

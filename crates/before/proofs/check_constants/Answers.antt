@@ -1,10 +1,6 @@
 -- `before::check_constants` meets its contract. The loop's measure is how many constants are left.
-use Prim.Native.Nat.{◌-◌}
-use native.Mathlib.Omega.{arith}
-use borrow.Author.Rules.{rules}
-use lib.ListN.{length}
 use Rattle.answer.specs.Answer.{told}
-use Rattle.before.proofs.Constants.{Granted, none_yet, one_more, lacks, all_granted}
+use Rattle.before.proofs.Constants.{none_yet, one_more, lacks, all_granted}
 use Rattle.before.proofs.check_constants.Goals as goal
 
 pub loop-constant-init : goal.loop-constant-init

@@ -1,6 +1,5 @@
 -- `before::check_function` meets its contract: there are no functions, or their right is asked for.
 use mathlib.Core.Path.{◌∙◌}
-use borrow.Author.Rules.{rules}
 use Rattle.answer.specs.Answer.{told}
 use Rattle.before.proofs.Tests.{no_functions, some_functions}
 use Rattle.before.proofs.check_function.Goals as goal

@@ -1,6 +1,5 @@
 -- `before::check_granted` meets its contract: nothing lacks, or something does.
 use mathlib.Core.Path.{sym, ◌∙◌}
-use borrow.Author.Rules.{rules}
 use Rattle.answer.specs.Answer.{told}
 use Rattle.before.proofs.Tests.{rights_granted, rights_lack}
 use Rattle.before.proofs.check_granted.Goals as goal

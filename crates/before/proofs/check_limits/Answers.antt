@@ -1,6 +1,4 @@
 -- `before::check_limits` meets its contract: an arm for each answer.
-use mathlib.Core.Path.{sym, ap, ◌∙◌}
-use borrow.Author.Rules.{rules}
 use Rattle.pools.specs.Answers.{limits_told}
 use Rattle.answer.specs.Answer.{told}
 use Rattle.before.proofs.Tests.{limits_kept, limit_exceeded}

@@ -1,6 +1,5 @@
 -- `before::early_tests` meets its contract: a test that passes leaves the answer to the next.
 use mathlib.Core.Path.{sym, ◌∙◌}
-use borrow.Author.Rules.{rules}
 use Rattle.before.specs.Before.{early_tests}
 use Rattle.before.proofs.Tests.{goes_on, stops, last}
 use Rattle.before.proofs.early_tests.Goals as goal

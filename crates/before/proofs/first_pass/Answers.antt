@@ -1,11 +1,7 @@
 -- `before::first_pass` meets its contract. The loop's measure is how many bytes are left.
-use Prim.Native.Nat.{◌-◌}
 use native.Mathlib.Omega.{arith}
-use borrow.Author.Rules.{rules}
-use lib.ListN.{length}
-use Rattle.indices.specs.Checks.{tables}
 use Rattle.answer.specs.Answer.{told}
-use Rattle.before.proofs.Pass.{Going, going_first, going_next, all_passed, refused_here}
+use Rattle.before.proofs.Pass.{going_first, going_next, all_passed, refused_here}
 use Rattle.before.proofs.first_pass.Goals as goal
 
 pub pass-init : goal.pass-init

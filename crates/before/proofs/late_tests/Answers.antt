@@ -1,7 +1,6 @@
 -- `before::late_tests` meets its contract: a test that passes leaves the answer to the next, and a refusal leaves no
 -- mark.
 use mathlib.Core.Path.{sym, ap, ◌∙◌}
-use borrow.Author.Rules.{rules}
 use Rattle.answer.specs.Answer.{told}
 use Rattle.before.specs.Before.{late_tests}
 use Rattle.before.proofs.Held.{refused_by, of_the_lent, as_held}

@@ -1,9 +1,8 @@
 -- `before::pass_instruction` meets its contract: a way out for each answer of the two checks.
-use mathlib.Core.Path.{◌≡◌, refl, sym, ap, ◌∙◌}
+use mathlib.Core.Path.{◌≡◌, refl}
 use Prim.Native.Nat.{ℕ}
 use mathlib.Core.List.{List}
 use native.Mathlib.Omega.{arith}
-use borrow.Author.Rules.{rules}
 use Rattle.code.specs.Answers.{found, found_at, width_told}
 use Rattle.code.specs.Width.{width_of}
 use Rattle.code.proofs.Widths.{Wide, wide}

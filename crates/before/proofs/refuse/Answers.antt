@@ -1,6 +1,5 @@
 -- `before::refuse` meets its contract: all marks are cleared.
 use mathlib.Core.Path.{refl}
-use borrow.Author.Rules.{rules}
 use Rattle.answer.specs.Answer.{told}
 use Rattle.before.proofs.refuse.Goals as goal
 
