@@ -48,6 +48,7 @@ granted needed rights e = eqb-true _ 0 (not_refused (eqb (lacking needed rights)
 all_granted : (rights : ℕ) (words : List ℕ) → constants_test rights words ≡ none → (i : ℕ) → i < length words
     → lacking (get_or words i 0) rights ≡ 0
 unfolding constants_test
+all_granted rights [] e i h = elim h [ ]
 all_granted rights (word ∷ words) e zero h = granted word rights (both _ _ e).this
 all_granted rights (word ∷ words) e (suc i) h =
     all_granted rights words (sym (last _) ∙ (both _ _ e).others) i (le_of_suc-le-suc h)
