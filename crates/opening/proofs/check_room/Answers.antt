@@ -1,5 +1,4 @@
 -- `opening::check_room` meets its contract.
-use borrow.Author.Rules.{rules}
 use Rattle.answer.specs.Answer.{told}
 use Rattle.opening.proofs.Tests.{no_records, no_work, both_fit}
 use Rattle.opening.proofs.check_room.Goals as goal

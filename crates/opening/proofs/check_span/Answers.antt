@@ -1,5 +1,4 @@
 -- `opening::check_span` meets its contract.
-use borrow.Author.Rules.{rules}
 use Rattle.answer.specs.Answer.{told}
 use Rattle.opening.proofs.Tests.{out_of_order, past_code, at_start, at_end, at_neither}
 use Rattle.opening.proofs.check_span.Goals as goal

@@ -1,10 +1,10 @@
 -- `opening::list_chunk` meets its contract.
 use mathlib.Core.List.{List}
 use mathlib.Core.Path.{◌≡◌, sym, ◌∙◌}
-use Prim.Native.Nat.{ℕ, ◌<◌}
+use Prim.Native.Nat.{ℕ}
 use native.Mathlib.Omega.{arith}
 use lib.ListN.{get_or}
-use Rattle.code.specs.Width.{width_of, width_at}
+use Rattle.code.specs.Width.{width_of}
 use Rattle.code.proofs.Widths.{Wide, width_there}
 use Rattle.listing.specs.Starts.{Start}
 use Rattle.listing.proofs.Starts.{start_wide}

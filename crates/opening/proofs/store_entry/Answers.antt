@@ -1,5 +1,4 @@
 -- `opening::store_entry` meets its contract.
-use borrow.Author.Rules.{rules}
 use Rattle.opening.proofs.Storing.{none_opened, one_opened}
 use Rattle.opening.proofs.store_entry.Goals as goal
 

@@ -1,12 +1,7 @@
 -- `opening::store_targets` meets its contract. The loop's measure is how many targets are left.
-use mathlib.Core.List.{List}
-use mathlib.Core.Path.{◌≡◌}
-use Prim.Native.Nat.{ℕ, ◌+◌, ◌-◌, ◌≤◌}
-use native.Mathlib.Omega.{arith}
-use borrow.Author.Rules.{rules}
-use lib.ListN.{length}
+use Prim.Native.Nat.{◌-◌}
 use Rattle.rules.specs.Edges.{targets_of}
-use Rattle.opening.proofs.Storing.{Storing, none_stored, one_stored, all_stored}
+use Rattle.opening.proofs.Storing.{Storing}
 use Rattle.opening.proofs.store_targets.Given as goal
 
 abbrev pub invariant-loop-k : goal.invariant-loop-k
