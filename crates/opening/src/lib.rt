@@ -184,6 +184,7 @@ fn check_span(code: &[u8], entry: u32, end: u32, marks: &[u64]) -> Outcome
 
 // Kind 3, of so many targets and edges: are the lent words of records enough, and then those of work? What is needed
 // can pass 32 bits.
+#[tactic(auto, using(crate::proofs::Tests::no_records, crate::proofs::Tests::no_work, crate::proofs::Tests::both_fit), unfolding(answer::specs::Answer::told))]
 fn check_room(targets: u64, edges: u64, records: usize, work: usize) -> Outcome
     requires targets_bound { targets < 2 ^ 40 }
     requires edges_bound { edges < 2 ^ 40 }
