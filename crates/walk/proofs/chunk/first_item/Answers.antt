@@ -1,0 +1,6 @@
+-- `walk::chunk::first_item` meets its contract.
+use borrow.Author.Rules.{rules}
+use Rattle.walk.proofs.chunk.first_item.Goals as goal
+
+pub returns : goal.returns
+returns c = rw c.find-slot.ensures

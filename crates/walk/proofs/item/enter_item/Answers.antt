@@ -1,0 +1,6 @@
+-- `walk::item::enter_item` meets its contract.
+use borrow.Author.Rules.{rules}
+use Rattle.walk.proofs.item.enter_item.Goals as goal
+
+pub returns : goal.returns
+returns c = rw (c.larger.ensures, c.larger-most.ensures)

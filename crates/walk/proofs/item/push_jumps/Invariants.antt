@@ -1,0 +1,16 @@
+-- `walk::item::push_jumps` meets its contract. The loop's measure is how many targets are left.
+use mathlib.Core.List.{List}
+use mathlib.Core.Path.{◌≡◌}
+use Prim.Native.Nat.{ℕ, ◌+◌, ◌-◌, ◌*◌, ◌≤◌}
+use native.Mathlib.Omega.{arith}
+use borrow.Author.Rules.{rules}
+use lib.ListN.{length}
+use Rattle.rules.specs.Edges.{targets_of}
+use Rattle.walk.proofs.Parts.{Pushing, none_pushed, one_pushed, all_pushed}
+use Rattle.walk.proofs.item.push_jumps.Given as goal
+
+abbrev pub invariant-loop-k : goal.invariant-loop-k
+invariant-loop-k l = Pushing (targets_of l.code l.switches l.cases l.ranges l.at) l.d l.waiting l.initial.work l.work l.k
+
+abbrev pub decreases-loop-k : goal.decreases-loop-k
+decreases-loop-k l = l.count - l.k
