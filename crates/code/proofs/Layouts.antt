@@ -22,9 +22,9 @@ upward zero from = []
 upward (suc n) from = from ∷ upward n (suc from)
 
 -- from 0x01 upward in the order of the lists; IMPORT, the last of its list, stands apart
-pub in_order_lem : tags_of widths ≡ upward 51 0x01 ++ (0x4f ∷ []) ++ upward 20 0x34
+pub in_order : tags_of widths ≡ upward 51 0x01 ++ (0x4f ∷ []) ++ upward 20 0x34
 unfolding tags_of
-in_order_lem = refl
+in_order = refl
 
 is_width : ℕ → ℕ → Bool
 unfolding width_of look_up among

@@ -121,7 +121,7 @@ module _ (S : Script) (span : Span) {records work : ℕ} (B : BeforeWalk S span 
   unfolding open_test span_test room_test unless
   open_passes =
       rw (
-        le-ltb span.end span.entry B.in_order_lem,
+        le-ltb span.end span.entry B.in_order,
         le-ltb (length S.code) span.end B.in_code,
         B.aligned,
         le-ltb records (4 * (1 + T S span)) B.records_room,
@@ -261,7 +261,7 @@ module _ (S : Script) (span : Span) where
     switch_there = B.switch_there;
     chains_within = B.chains_within;
     switches_within = B.switches_within;
-    in_order_lem = B.in_order_lem;
+    in_order = B.in_order;
     in_code = B.in_code;
     aligned = B.aligned;
     records_room = B.records_room;

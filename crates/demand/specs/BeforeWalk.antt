@@ -23,7 +23,7 @@ pub record BeforeWalk (S : Script) (span : Span) (records work : ℕ) : Type 0 w
       → index_at S.code p < switches_in S.pools.switches
   pub chains_within : ChainsWithin S.pools.chains S.pools.steps
   pub switches_within : SwitchesWithin S.pools.switches S.pools.cases S.pools.ranges
-  pub in_order_lem : span.entry ≤ span.end
+  pub in_order : span.entry ≤ span.end
   pub in_code : span.end ≤ length S.code
   pub aligned : among span.entry (starts S.code) || eqb span.entry (length S.code) ≡ true
   pub records_room : 4 * (1 + T S span) ≤ records

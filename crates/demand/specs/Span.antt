@@ -28,7 +28,7 @@ pub record InChunk (S : Script) (span : Span) (p : ℕ) : Type 0 where
 -- a chunk's own tests, 7 and 8, passed: this holds exactly where `span_test` refuses nothing (`span_exactly` in
 -- proofs/Tests)
 pub record InCode (code : List ℕ) (entry end : ℕ) : Type 0 where
-  pub in_order_lem : entry ≤ end
+  pub in_order : entry ≤ end
   pub in_code : end ≤ length code
   pub aligned : among entry (starts code) || eqb entry (length code) ≡ true
 

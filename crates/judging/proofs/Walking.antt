@@ -158,7 +158,7 @@ module _ (S : Script) (R : Ready S) (marks : List ℕ) (M : Marked marks S.code)
       switch_there = λ p s has. ((R.listable.switch_there p s).switch has).entry;
       chains_within = R.chains_within;
       switches_within = R.switches_within;
-      in_order_lem = O.in_code.in_order_lem;
+      in_order = O.in_code.in_order;
       in_code = O.in_code.in_code;
       aligned = O.in_code.aligned;
       records_room = O.records_room;

@@ -124,7 +124,7 @@ module _ (code switches cases ranges : List ℕ) where
         targets = omega arith;
         edges = omega arith;
         on_start = entry_start;
-        in_code = omega (arith, I.in_order_lem, I.in_code);
+        in_code = omega (arith, I.in_order, I.in_code);
         few_targets = omega arith;
         few_edges = omega arith;
       })

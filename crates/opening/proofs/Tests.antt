@@ -68,11 +68,11 @@ module _ (code : List ℕ) (entry end : ℕ) where
       go true qa b qb d qd e = absurd (zero≢one (cc))
       go false qa true qb d qd e = absurd (zero≢one (cc))
       go false qa false qb false qd e = absurd (zero≢one (cc))
-      go false qa false qb true qd e = record { in_order_lem = ltb-false end entry qa; in_code = ltb-false (length code) end qb; aligned = qd }
+      go false qa false qb true qd e = record { in_order = ltb-false end entry qa; in_code = ltb-false (length code) end qb; aligned = qd }
 
   pub in_code_passes : InCode code entry end → span_test code entry end ≡ none
   unfolding span_test
-  in_code_passes i = rw (le-ltb end entry i.in_order_lem, le-ltb (length code) end i.in_code, i.aligned) refl
+  in_code_passes i = rw (le-ltb end entry i.in_order, le-ltb (length code) end i.in_code, i.aligned) refl
 
   pub span_exactly : span_test code entry end ≡ none ↔ InCode code entry end
   span_exactly = (span_passed, in_code_passes)

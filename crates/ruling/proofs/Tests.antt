@@ -168,9 +168,9 @@ module _ (S : Script) (span : Span) (p : ℕ) (d : Depths) where
   abbrev tested : Option Answer
   tested = needs_test (lacksAt S p) (tag_of S p) (operands_needed S p) p d
 
-  in_order_lem : ruled S span p d ≡ unless Denies tested rest
+  in_order : ruled S span p d ≡ unless Denies tested rest
   unfolding ruled answers rule leaving unless
-  in_order_lem = go tested (plain (tag_of S p) && leb span.end (next S p))
+  in_order = go tested (plain (tag_of S p) && leb span.end (next S p))
     where
       given : machine.Ruling Answer
       given = machine.gives (after S p d).operands (says.fall S span p d (falls (tag_of S p))) (says.jumps S span p d)
@@ -190,4 +190,4 @@ module _ (S : Script) (span : Span) (p : ℕ) (d : Depths) where
   unfolding next
   rule_settled {missing} {w} lacks acts wide e q =
       let width : w ≡ width_at S.code p = e ∙ sym (width_there width_of S.code p wide).tag in
-      rw (lacks, acts.needed, acts.popped, acts.pushed, width) at q ∙ sym in_order_lem
+      rw (lacks, acts.needed, acts.popped, acts.pushed, width) at q ∙ sym in_order

@@ -91,10 +91,10 @@ module _ (S : Script) (span : Span) (records work : ℕ) where
       go false qx false qy false qm true ql e = absurd (zero≢one (cc))
       go false qx false qy false qm false ql e =
           let same : Misaligned span.entry ≡ a = cc in
-          let in_order_lem = ltb-false span.end span.entry qx in
+          let in_order = ltb-false span.end span.entry qx in
           let in_code = ltb-false (length S.code) span.end qy in
           subst (Shut S span records work) same
-          (misaligned in_order_lem in_code (λ s. zero≢one (cc (listed s, qm)))
+          (misaligned in_order in_code (λ s. zero≢one (cc (listed s, qm)))
           (λ q. zero≢one (cc (eq-eqb span.entry (length S.code) q, ql))))
 
   room_shut : InCode S.code span.entry span.end → {a : Answer} → roomy ≡ some a → Shut S span records work a
@@ -123,9 +123,9 @@ module _ (S : Script) (span : Span) (records work : ℕ) where
 
   -- and it does not open
   pub shut_not_open : {a : Answer} → Shut S span records work a → ¬ Opens S span records work
-  shut_not_open (out_of_range (inl h)) o = omega (arith, o.in_code.in_order_lem)
+  shut_not_open (out_of_range (inl h)) o = omega (arith, o.in_code.in_order)
   shut_not_open (out_of_range (inr h)) o = omega (arith, o.in_code.in_code)
-  shut_not_open (misaligned in_order_lem in_code no_start not_last) o =
+  shut_not_open (misaligned in_order in_code no_start not_last) o =
       go (among span.entry (starts S.code)) refl (eqb span.entry (length S.code)) refl o.in_code.aligned
     where
       go : (m : Bool) → among span.entry (starts S.code) ≡ m → (l : Bool) → eqb span.entry (length S.code) ≡ l
@@ -171,7 +171,7 @@ module _ (I : Input) (is : Established I) (span : Span) (records work : ℕ) whe
   -- where it opens, its walk judges it
   module _ (o : Opens I.script span records work) where
     walks : BeforeWalk I.script span records work
-    walks = before_walk I is span records work o.in_code.in_order_lem o.in_code.in_code o.in_code.aligned o.records_room o.work_room
+    walks = before_walk I is span records work o.in_code.in_order o.in_code.in_code o.in_code.aligned o.records_room o.work_room
 
     pub written_passes : Writing I.script span → Passing
     written_passes w = let a = (accepted_exactly I.script span walks).1 w in

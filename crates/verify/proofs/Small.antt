@@ -27,7 +27,7 @@ module _ (S : Script) (R : Ready S) (span : Span) (records work : ℕ) where
         switch_there = λ p s has. ((R.listable.switch_there p s).switch has).entry;
         chains_within = R.chains_within;
         switches_within = R.switches_within;
-        in_order_lem = o.in_code.in_order_lem;
+        in_order = o.in_code.in_order;
         in_code = o.in_code.in_code;
         aligned = o.in_code.aligned;
         records_room = o.records_room;

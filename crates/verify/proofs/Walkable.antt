@@ -17,13 +17,13 @@ module _ (I : Input) (is : Established I) where
   pub before_walk : (span : Span) (records work : ℕ) → span.entry ≤ span.end → span.end ≤ length I.script.code
       → among span.entry (starts I.script.code) || eqb span.entry (length I.script.code) ≡ true
       → 4 * (1 + T I.script span) ≤ records → 4 * (1 + E I.script span) ≤ work → BeforeWalk I.script span records work
-  before_walk span records work in_order_lem in_code aligned records_room work_room = record {
+  before_walk span records work in_order in_code aligned records_room work_room = record {
     decoded = is.decoded;
     chain_there = λ p s has. ((chain_there I is p s).chain has).entry;
     switch_there = λ p s has. ((switch_there I is p s).switch has).entry;
     chains_within = chains_within is.good;
     switches_within = switches_within is.good;
-    in_order_lem = in_order_lem;
+    in_order = in_order;
     in_code = in_code;
     aligned = aligned;
     records_room = records_room;

@@ -1,6 +1,5 @@
 -- `walk::chunk::close_chunk` meets its contract.
 use mathlib.Core.Path.{refl}
-use borrow.Author.Rules.{rules}
 use borrow.Author.Tests.{lt-ltb, le-ltb}
 use Rattle.answer.specs.Answer.{told}
 use Rattle.demand.specs.Chunk.{height_test}

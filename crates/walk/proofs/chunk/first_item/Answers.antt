@@ -1,5 +1,4 @@
 -- `walk::chunk::first_item` meets its contract.
-use borrow.Author.Rules.{rules}
 use Rattle.walk.proofs.chunk.first_item.Goals as goal
 
 pub returns : goal.returns

@@ -1,5 +1,4 @@
 -- `walk::item::enter_item` meets its contract.
-use borrow.Author.Rules.{rules}
 use Rattle.walk.proofs.item.enter_item.Goals as goal
 
 pub returns : goal.returns

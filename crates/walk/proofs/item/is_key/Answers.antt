@@ -1,5 +1,4 @@
 -- `walk::item::is_key` meets its contract: below the number of keys, its word decides.
-use borrow.Author.Rules.{rules}
 use borrow.Author.Tests.{lt-ltb, le-ltb}
 use Rattle.walk.proofs.item.is_key.Goals as goal
 

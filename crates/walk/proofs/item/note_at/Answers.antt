@@ -8,19 +8,19 @@ use Rattle.walk.proofs.item.note_at.Goals as goal
 pub overflow_mul-slot : goal.overflow_mul-slot
 overflow_mul-slot c =
     let below : c.args.slot < c.args.room.keys =
-        key_slot _ _ _ _ (sym c.is_key.ensures ∙ c.if-is_key.true) in
+    key_slot _ _ _ _ (sym c.is_key.ensures ∙ c.if-is_key.true) in
     omega arith
 
 pub overflow_add-room : goal.overflow_add-room
 overflow_add-room c =
     let below : c.args.slot < c.args.room.keys =
-        key_slot _ _ _ _ (sym c.is_key.ensures ∙ c.if-is_key.true) in
+    key_slot _ _ _ _ (sym c.is_key.ensures ∙ c.if-is_key.true) in
     omega arith
 
 pub note-requires-clause-at_in_bounds : goal.note-requires-clause-at_in_bounds
 note-requires-clause-at_in_bounds c =
     let below : c.args.slot < c.args.room.keys =
-        key_slot _ _ _ _ (sym c.is_key.ensures ∙ c.if-is_key.true) in
+    key_slot _ _ _ _ (sym c.is_key.ensures ∙ c.if-is_key.true) in
     omega arith
 
 pub returns-then-is_key : goal.returns-then-is_key

@@ -1,12 +1,7 @@
 -- `walk::item::push_jumps` meets its contract. The loop's measure is how many targets are left.
-use mathlib.Core.List.{List}
-use mathlib.Core.Path.{◌≡◌}
-use Prim.Native.Nat.{ℕ, ◌+◌, ◌-◌, ◌*◌, ◌≤◌}
-use native.Mathlib.Omega.{arith}
-use borrow.Author.Rules.{rules}
-use lib.ListN.{length}
+use Prim.Native.Nat.{◌-◌}
 use Rattle.rules.specs.Edges.{targets_of}
-use Rattle.walk.proofs.Parts.{Pushing, none_pushed, one_pushed, all_pushed}
+use Rattle.walk.proofs.Parts.{Pushing}
 use Rattle.walk.proofs.item.push_jumps.Given as goal
 
 abbrev pub invariant-loop-k : goal.invariant-loop-k
