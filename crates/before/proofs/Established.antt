@@ -167,7 +167,7 @@ module _ (I : Input) (is : Established I) where
     chain_there = record {
       chain = λ has.
           let there = named.chain_there I.script.pools I.script.code p (is.indices_fine p s) has in
-          record { entry = there; within = (is.good.good_chains_lem _ there).within };
+          record { entry = there; within = (is.good.good_chains _ there).within };
     }
 
     pub switch_there : SwitchThere I.script.code I.script.pools.switches I.script.pools.cases
@@ -175,7 +175,7 @@ module _ (I : Input) (is : Established I) where
     switch_there = record {
       switch = λ has.
           let there = named.switch_there I.script.pools I.script.code p (is.indices_fine p s) has in
-          let good = is.good.good_switches_lem _ there in
+          let good = is.good.good_switches _ there in
           record { entry = there; cases_within = good.cases_within; ranges_within = good.ranges_within };
     }
 

@@ -46,12 +46,12 @@ module _ (size : ℕ) (words : List ℕ) where
 -- in good tables it lies within its table
 module _ {chains steps switches cases ranges : List ℕ} (g : GoodTables chains steps switches cases ranges) where
   pub chains_within : ChainsWithin chains steps
-  chains_within = record { steps_within = λ i h. (g.good_chains_lem i h).within }
+  chains_within = record { steps_within = λ i h. (g.good_chains i h).within }
 
   pub switches_within : SwitchesWithin switches cases ranges
   switches_within = record {
-    cases_within = λ i h. (g.good_switches_lem i h).cases_within;
-    ranges_within = λ i h. (g.good_switches_lem i h).ranges_within;
+    cases_within = λ i h. (g.good_switches i h).cases_within;
+    ranges_within = λ i h. (g.good_switches i h).ranges_within;
   }
 
 -- ---- the ways through the tests
@@ -147,11 +147,11 @@ module _ (chains steps switches cases ranges : List ℕ) where
         → FirstIs 3 (switches_in switches)
     ragged_case : Whole chain_words chains → Whole step_words steps → Whole switch_words switches
         → ragged case_words cases ≡ true → FirstIs 4 (cases_in cases)
-    bad_chain_lem : {i : ℕ} → AllWhole chains steps switches cases
+    a_bad_chain : {i : ℕ} → AllWhole chains steps switches cases
         → FirstAt chain_bad (chains_in chains) i → FirstIs 1 i
-    bad_step_lem : {i : ℕ} → AllWhole chains steps switches cases → GoodChains chains steps
+    a_bad_step : {i : ℕ} → AllWhole chains steps switches cases → GoodChains chains steps
         → FirstAt step_bad (steps_in steps) i → FirstIs 2 i
-    bad_switch_lem : {i : ℕ} → AllWhole chains steps switches cases → GoodChains chains steps → GoodSteps steps
+    a_bad_switch : {i : ℕ} → AllWhole chains steps switches cases → GoodChains chains steps → GoodSteps steps
         → FirstAt switch_bad (switches_in switches) i → FirstIs 3 i
 
   -- the tables are good, or what is told is the first that is bad
@@ -177,21 +177,21 @@ module _ (chains steps switches cases ranges : List ℕ) where
           → Upward (bad_table 2) step_bad (steps_in steps) in_steps
           → Upward (bad_table 3) switch_bad (switches_in switches) in_switches → Outcome told
       in_turn (first_at i at e) s w =
-          refused (bad_chain_lem (all_whole n) at) (sym (in_chains_lem n (sym e) (omega arith)))
+          refused (a_bad_chain (all_whole n) at) (sym (in_chains_lem n (sym e) (omega arith)))
       in_turn (none c p) (first_at i at e) w =
           refused
-          (bad_step_lem (all_whole n) (λ k h. good_chain _ _ (c k h)) at)
+          (a_bad_step (all_whole n) (λ k h. good_chain _ _ (c k h)) at)
           (sym (in_steps_lem n (sym p) (sym e) (omega arith)))
       in_turn (none c p) (none s q) (first_at i at e) =
-          refused (bad_switch_lem (all_whole n) (λ k h. good_chain _ _ (c k h)) (λ k h. good_step _ (s k h)) at)
+          refused (a_bad_switch (all_whole n) (λ k h. good_chain _ _ (c k h)) (λ k h. good_step _ (s k h)) at)
           (sym (in_switches_lem n (sym p) (sym q)) ∙ e)
       in_turn (none c p) (none s q) (none w e) =
           good
           (record {
             all_whole = all_whole n;
-            good_chains_lem = λ k h. good_chain _ _ (c k h);
-            good_steps_lem = λ k h. good_step _ (s k h);
-            good_switches_lem = λ k h. good_switch _ _ _ (w k h);
+            good_chains = λ k h. good_chain _ _ (c k h);
+            good_steps = λ k h. good_step _ (s k h);
+            good_switches = λ k h. good_switch _ _ _ (w k h);
           })
           (sym (in_switches_lem n (sym p) (sym q)) ∙ e)
 
@@ -231,10 +231,10 @@ module _ (chains steps switches cases ranges : List ℕ) where
   none_first g (ragged_switch c s r) =
       true≢false (sym r ∙ not_ragged switch_words switches g.all_whole.switches_whole)
   none_first g (ragged_case c s w r) = true≢false (sym r ∙ not_ragged case_words cases g.all_whole.cases_whole)
-  none_first g (bad_chain_lem a f) = true≢false (sym f.is_bad ∙ not_bad_chain _ _ (g.good_chains_lem _ f.within))
-  none_first g (bad_step_lem a c f) = true≢false (sym f.is_bad ∙ not_bad_step _ (g.good_steps_lem _ f.within))
-  none_first g (bad_switch_lem a c s f) =
-      true≢false (sym f.is_bad ∙ not_bad_switch _ _ _ (g.good_switches_lem _ f.within))
+  none_first g (a_bad_chain a f) = true≢false (sym f.is_bad ∙ not_bad_chain _ _ (g.good_chains _ f.within))
+  none_first g (a_bad_step a c f) = true≢false (sym f.is_bad ∙ not_bad_step _ (g.good_steps _ f.within))
+  none_first g (a_bad_switch a c s f) =
+      true≢false (sym f.is_bad ∙ not_bad_switch _ _ _ (g.good_switches _ f.within))
 
   pub good_passed : GoodTables chains steps switches cases ranges → told ≡ fine
   good_passed g = go outcome

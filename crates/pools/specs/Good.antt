@@ -93,6 +93,6 @@ GoodSwitches switches cases ranges = EachSwitch (GoodSwitch (cases_in cases) (le
 
 pub record GoodTables (chains steps switches cases ranges : List ℕ) : Type 0 where
   pub all_whole : AllWhole chains steps switches cases
-  pub good_chains_lem : GoodChains chains steps
-  pub good_steps_lem : GoodSteps steps
-  pub good_switches_lem : GoodSwitches switches cases ranges
+  pub good_chains : GoodChains chains steps
+  pub good_steps : GoodSteps steps
+  pub good_switches : GoodSwitches switches cases ranges
