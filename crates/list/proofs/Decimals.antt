@@ -1,5 +1,5 @@
 -- The digits of a number are those of what is left without its last digit, and that digit; one below ten is its own.
-use mathlib.Core.Bool.{Bool, true, false, cond}
+use mathlib.Core.Bool.{Bool, true, false}
 use mathlib.Core.List.{List, [], ◌∷◌, ◌++◌, append_assoc}
 use mathlib.Core.Path.{◌≡◌, refl, sym, ap, ◌∙◌}
 use Prim.Native.Nat.{ℕ, zero, suc, ◌+◌, ◌-◌, ◌/◌, ◌%◌, ◌^◌, ◌≤◌, ◌<◌}
@@ -21,12 +21,11 @@ enough (suc k) zero n h l = absurd (omega arith)
 enough (suc k) (suc m) n h l = go (ltb n 10) refl (λ less. enough k m (n / 10) (omega arith) (omega arith))
   where
     go : (b : Bool) → ltb n 10 ≡ b → (n / 10 < n → decimal_digits k (n / 10) ≡ decimal_digits m (n / 10))
-        → cond b (digit n ∷ []) (decimal_digits k (n / 10) ++ (digit (n % 10) ∷ []))
-        ≡ cond b (digit n ∷ []) (decimal_digits m (n / 10) ++ (digit (n % 10) ∷ []))
-    go true e rest = refl
+        → decimal_digits (suc k) n ≡ decimal_digits (suc m) n
+    go true e rest = rw e
     go false e rest =
         let large : 10 ≤ n = ltb-false n 10 e in
-        ap (λ (l : List ℕ). l ++ (digit (n % 10) ∷ [])) (rest (div-lt_self {n = n} {k = 10} (omega arith) (omega arith)))
+        rw (e, rest (div-lt_self {n = n} {k = 10} (omega arith) (omega arith)))
 
 pub one_digit : (n : ℕ) → n < 10 → decimal n ≡ digit n ∷ []
 unfolding decimal decimal_digits
@@ -37,7 +36,8 @@ unfolding decimal decimal_digits
 more_digits n h =
     let e : n + 1 ≡ suc n = omega arith in
     let less : n / 10 < n = div-lt_self {n = n} {k = 10} (omega arith) (omega arith) in
-    rw (e, le-ltb n 10 h) (ap (λ (l : List ℕ). l ++ (digit (n % 10) ∷ [])) (enough n (n / 10 + 1) (n / 10) less (omega arith)))
+    rw (e, le-ltb n 10 h)
+    (ap (λ (l : List ℕ). l ++ (digit (n % 10) ∷ [])) (enough n (n / 10 + 1) (n / 10) less (omega arith)))
 
 -- the last digit is written, and those before it are left
 pub digit_written : (n rest first : ℕ) (digits : List ℕ) → 10 ≤ rest → first < length digits
@@ -66,4 +66,5 @@ room_left rest (suc first) l h = omega arith
 pub fewer_left : (rest first : ℕ) → 0 < first → rest < 10 ^ (first + 1) → rest / 10 < 10 ^ (first - 1 + 1)
 fewer_left rest first p h =
     let e : first - 1 + 1 ≡ first = omega arith in
-    rw e ((div-lt_iff_lt-mul {k = 10} {x = rest} {y = 10 ^ first} (omega arith)).1 (rw (add-one, pow-suc 10 first) at h))
+    rw e
+    ((div-lt_iff_lt-mul {k = 10} {x = rest} {y = 10 ^ first} (omega arith)).1 (rw (add-one, pow-suc 10 first) at h))

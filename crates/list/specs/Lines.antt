@@ -1,6 +1,6 @@
 -- The lines of the listing. Document 01, "Modules": "offset, tag and width in turn. Added: the end says whether it came at the
 -- code's end or at a byte without a width"; the operands stand beside them, by the layout of the tag.
-use Rattle.std.specs.Prelude.{cond, List, [], ◌∷◌, ◌++◌, map, ◌≡◌, ℕ, ◌+◌, eqb, length}
+use Rattle.std.specs.Prelude.{cond, List, [], ◌∷◌, ◌++◌, ◌≡◌, ℕ, ◌+◌, eqb, length}
 use Rattle.code.specs.Layout.{Field, layout}
 use Rattle.code.specs.Sizes.{size}
 use Rattle.code.specs.Layout.{little}

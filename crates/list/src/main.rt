@@ -22,8 +22,8 @@ mod names;
 mod operands;
 mod text;
 
-// Prints the line of what stands at an offset, and answers the place after it: the same where the listing ended. The only error
-// is that of a write that failed.
+// Prints the line of what stands at an offset, and answers the place after it: the same where the listing ended. The only
+// error is that of a write that failed.
 fn print_line(rt: &impl Print, code: &[u8], at: usize) -> io::Result<usize>
     ensures { IfOk result (λ next. next ≡ place_after (listed_at code.now at) at) }
 {
@@ -55,14 +55,14 @@ fn room() -> [u8; MAX_CODE]
     [0; MAX_CODE]
 }
 
-// Reads until there is no more room or no more input, and answers how many bytes were read. The only error is that of a read that
-// failed.
-fn read_full(input: &mut impl Read, room: &mut [u8]) -> io::Result<usize>
-    ensures { IfOk result (λ count. count ≤ length room.new) }
+// Reads until the buffer is full or the input ends, and answers how many bytes were read. The only error is that of a read
+// that failed.
+fn read_full(input: &mut impl Read, buffer: &mut [u8]) -> io::Result<usize>
+    ensures { IfOk result (λ count. count ≤ length buffer.new) }
 {
     let mut count = 0;
-    while count < room.len() {
-        let read = input.read(&mut room[count..])?;
+    while count < buffer.len() {
+        let read = input.read(&mut buffer[count..])?;
         if read == 0 {
             break;
         }

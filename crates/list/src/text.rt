@@ -22,7 +22,7 @@ pub fn put_bytes(line: &mut [u8], at: usize, bytes: &[u8]) -> usize
     at + i
 }
 
-// A number has at most 20 digits.
+// A number has at most 20 digits. They are found from the last to the first.
 pub fn put_number(line: &mut [u8], at: usize, number: u64) -> usize
     requires { at + 20 ≤ length line.old }
     ensures puts { Puts at (decimal number) line.old line.new result }

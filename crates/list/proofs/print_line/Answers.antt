@@ -3,7 +3,6 @@ use mathlib.Core.Path.{sym}
 use Prim.Native.Nat.{zero-le}
 use lib.Seq.{length-take-le}
 use Rattle.list.proofs.Putting.{put_within}
-use borrow.Author.Rules.{rules}
 use Rattle.list.proofs.print_line.Goals as goal
 
 pub slice_bounds-line-end : goal.slice_bounds-line-end

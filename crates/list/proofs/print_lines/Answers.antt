@@ -1,4 +1,4 @@
--- `list::print_lines` meets its contract. The loop's invariant: the listing from here on ends where it ends from the start.
+-- `list::print_lines` meets its contract: where a line's place is the next one, the listing ends.
 use mathlib.Core.List.{List}
 use mathlib.Core.Path.{◌≡◌, refl, sym, ◌∙◌}
 use Prim.Native.Nat.{ℕ}
@@ -10,7 +10,8 @@ use Rattle.reader.proofs.Reading.{Moved, stays, moves}
 use Rattle.list.proofs.print_lines.Goals as goal
 
 -- another place is further on
-moved : (code : List ℕ) (at next : ℕ) → next ≡ place_after (listed_at code at) at → (next ≡ at → ⊥) → Moved width_of code at next
+moved : (code : List ℕ) (at next : ℕ) → next ≡ place_after (listed_at code at) at → (next ≡ at → ⊥)
+    → Moved width_of code at next
 moved code at next told d = rw told (moves width_of code at (λ e. d (told ∙ e)))
 
 pub loop-next-init : goal.loop-next-init
@@ -18,7 +19,8 @@ loop-next-init g c = (omega arith, refl)
 
 pub returns-then-next-at : goal.returns-then-next-at
 returns-then-next-at g c =
-    sym (stays width_of c.args.code.now c.loop-next.at (sym c.in_ok-next.ensures ∙ c.if-next-at.true)) ∙ c.loop-next.invariant.1
+    sym (stays width_of c.args.code.now c.loop-next.at (sym c.in_ok-next.ensures ∙ c.if-next-at.true))
+    ∙ c.loop-next.invariant.1
 
 pub loop-next-smaller : goal.loop-next-smaller
 loop-next-smaller g c =

@@ -1,11 +1,9 @@
--- `list::print_lines` meets its contract. The loop's invariant: the listing from here on ends where it ends from the start.
-use mathlib.Core.Path.{◌≡◌, refl, sym, ◌∙◌}
+-- The invariant of the loop of `list::print_lines`: the listing from here on ends where it ends from the start.
+use mathlib.Core.Path.{◌≡◌}
 use Prim.Native.Nat.{◌-◌, ◌≤◌}
-use native.Mathlib.Omega.{arith}
 use lib.ListN.{length}
 use Rattle.code.specs.Width.{width_of}
 use Rattle.listing.specs.Listing.{stop_by}
-use Rattle.reader.proofs.Reading.{Moved, stays, moves}
 use Rattle.list.proofs.print_lines.Given as goal
 
 abbrev pub invariant-loop-next : goal.invariant-loop-next

@@ -1,7 +1,6 @@
 -- `list::lines::put_ending` meets its contract.
 use Rattle.list.specs.Lines.{ending_line}
 use Rattle.list.proofs.Putting.{put_then}
-use borrow.Author.Rules.{rules}
 use Rattle.list.proofs.lines.put_ending.Goals as goal
 
 pub returns : goal.returns

@@ -6,7 +6,6 @@ use Rattle.list.specs.Lines.{line_of}
 use Rattle.list.specs.Text.{letters}
 use Rattle.list.proofs.Lined.{own_place}
 use Rattle.list.proofs.Putting.{put_as}
-use borrow.Author.Rules.{rules}
 use Rattle.list.proofs.lines.write_line.Goals as goal
 
 pub put_item-requires : goal.put_item-requires

@@ -6,7 +6,6 @@ use Rattle.list.specs.Names.{name_in}
 use Rattle.list.specs.Text.{letters}
 use Rattle.list.proofs.Named.{joined, name_word, short_name}
 use Rattle.list.proofs.Putting.{put_as}
-use borrow.Author.Rules.{rules}
 use Rattle.list.proofs.names.put_name.Goals as goal
 
 pub put_word-requires : goal.put_word-requires

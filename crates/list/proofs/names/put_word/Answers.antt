@@ -4,7 +4,6 @@ use native.Mathlib.Omega.{arith}
 use lib.ListN.{length}
 use Rattle.list.proofs.Putting.{put_as}
 use Rattle.list.proofs.Worded.{stops_within, word_at_lem}
-use borrow.Author.Rules.{rules}
 use Rattle.list.proofs.names.put_word.Goals as goal
 
 pub slice_bounds-put_bytes-end : goal.slice_bounds-put_bytes-end

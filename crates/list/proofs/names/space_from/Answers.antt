@@ -1,10 +1,8 @@
--- `list::names::space_from` meets its contract. The loop's invariant: the first word from here on ends where the one from the
--- start does.
-use mathlib.Core.Path.{◌≡◌, refl, ap}
-use Prim.Native.Nat.{◌+◌, ◌-◌, ◌≤◌}
+-- `list::names::space_from` meets its contract: the first word ends at a space, or at the end.
+use mathlib.Core.Path.{refl, ap}
 use native.Mathlib.Omega.{arith}
-use lib.ListN.{length, drop}
-use Rattle.list.proofs.Worded.{stops, none_at_end, none_at_space, one_letter}
+use lib.ListN.{length}
+use Rattle.list.proofs.Worded.{none_at_end, none_at_space, one_letter}
 use Rattle.list.proofs.names.space_from.Goals as goal
 
 pub loop-i-init : goal.loop-i-init
@@ -20,16 +18,15 @@ returns-then-text-i-eq32 c =
     )
 
 pub loop-i-preserved : goal.loop-i-preserved
-loop-i-preserved c =
-    (
-      omega arith,
-      omega (
-        arith,
-        c.loop-i.invariant.1,
-        ap length (one_letter c.args.text.now
-            c.loop-i.i c.loop-i-test.true c.if-text-i-eq32.false),
-      ),
-    )
+loop-i-preserved c = (
+  omega arith,
+  omega (
+    arith,
+    c.loop-i.invariant.1,
+    ap length (one_letter c.args.text.now
+        c.loop-i.i c.loop-i-test.true c.if-text-i-eq32.false),
+  ),
+)
 
 pub returns : goal.returns
 returns c = omega (arith, c.loop-i.invariant.1, ap length (none_at_end c.args.text.now c.loop-i.i c.loop-i-test.false))

@@ -1,10 +1,9 @@
--- `list::names::space_from` meets its contract. The loop's invariant: the first word from here on ends where the one from the
+-- The invariant of the loop of `list::names::space_from`: the first word from here on ends where the one from the
 -- start does.
-use mathlib.Core.Path.{◌≡◌, refl, ap}
-use Prim.Native.Nat.{◌+◌, ◌-◌, ◌≤◌}
-use native.Mathlib.Omega.{arith}
-use lib.ListN.{length, drop}
-use Rattle.list.proofs.Worded.{stops, none_at_end, none_at_space, one_letter}
+use mathlib.Core.Path.{◌≡◌}
+use Prim.Native.Nat.{◌-◌, ◌≤◌}
+use lib.ListN.{length}
+use Rattle.list.proofs.Worded.{stops}
 use Rattle.list.proofs.names.space_from.Given as goal
 
 abbrev pub invariant-loop-i : goal.invariant-loop-i

@@ -1,10 +1,9 @@
--- `list::names::word_start` meets its contract. The loop's invariant: as many words as are to be passed still, from here on,
--- lead to where all of them lead from the start.
+-- `list::names::word_start` meets its contract: the words that are left start behind a space, or at the end.
 use mathlib.Core.Path.{◌≡◌}
-use Prim.Native.Nat.{◌-◌, ◌≤◌}
+use Prim.Native.Nat.{◌≤◌}
 use native.Mathlib.Omega.{arith}
 use lib.ListN.{length, drop}
-use Rattle.list.specs.Words.{words, other_words}
+use Rattle.list.specs.Words.{other_words}
 use Rattle.list.proofs.Worded.{others, no_others, stops_within, all_words, fewer_words, passed_words}
 use Rattle.list.proofs.names.word_start.Goals as goal
 use Rattle.list.proofs.names.word_start.Goals.{then-start-text, else-start-text}
@@ -17,10 +16,11 @@ next c =
     let start = c.loop-i.start in
     let within = stops_within text start c.loop-i.invariant.0 in
     elim c.if-start-text.branch [
-    | then-start-text w ↦
-        rw w.start-is (omega (arith, w.if-start-text.true), rw c.space_from-start.ensures (others text start))
-    | else-start-text w ↦
-        rw w.start-is (omega (arith, within), rw c.space_from-start.ensures (no_others text start (omega (arith, w.if-start-text.false))))
+      | then-start-text w ↦
+          rw w.start-is (omega (arith, w.if-start-text.true), rw c.space_from-start.ensures (others text start))
+      | else-start-text w ↦
+          rw w.start-is
+          (omega (arith, within), rw c.space_from-start.ensures (no_others text start (omega (arith, w.if-start-text.false))))
     ]
 
 pub loop-i-init : goal.loop-i-init

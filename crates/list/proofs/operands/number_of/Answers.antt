@@ -2,9 +2,6 @@
 use native.Mathlib.Omega.{arith}
 use Rattle.code.specs.Layout.{little}
 use Rattle.list.proofs.Sized.{four_left}
-use borrow.Author.Rules.{rules}
-use Rattle.code.proofs.read_u16.Reads as read-u16-reads
-use Rattle.code.proofs.read_u32.Reads as read-u32-reads
 use Rattle.list.proofs.operands.number_of.Goals as goal
 
 pub returns-then-size-eq0 : goal.returns-then-size-eq0

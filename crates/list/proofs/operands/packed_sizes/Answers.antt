@@ -2,7 +2,6 @@
 use mathlib.Core.Path.{sym}
 use Rattle.code.proofs.Table.{past}
 use Rattle.list.specs.Sizes.{packed}
-use borrow.Author.Rules.{rules}
 use Rattle.list.proofs.operands.packed_sizes.Goals as goal
 
 pub returns : goal.returns

@@ -2,7 +2,6 @@
 use native.Mathlib.Omega.{arith}
 use Rattle.list.proofs.Putting.{put_then, put_as}
 use Rattle.list.proofs.Sized.{whole_sizes, three_shown}
-use borrow.Author.Rules.{rules}
 use Rattle.list.proofs.operands.put_operands.Goals as goal
 
 pub overflow_add-second : goal.overflow_add-second

@@ -1,10 +1,7 @@
--- `list::text::put_bytes` meets its contract. The loop's invariant: the bytes that were passed are put.
-use Prim.Native.Nat.{◌+◌, ◌-◌, ◌≤◌}
+-- `list::text::put_bytes` meets its contract. Where the loop ends, all bytes are put.
 use native.Mathlib.Nat.{add-zero}
 use native.Mathlib.Omega.{arith}
-use lib.ListN.{length, take}
 use lib.Seq.{take_all}
-use Rattle.list.specs.Text.{Puts}
 use Rattle.list.proofs.Putting.{put_none, put_more}
 use Rattle.list.proofs.text.put_bytes.Goals as goal
 

@@ -1,7 +1,6 @@
 -- `list::text::put_field` meets its contract.
 use native.Mathlib.Omega.{arith}
 use Rattle.list.proofs.Putting.{put_then}
-use borrow.Author.Rules.{rules}
 use Rattle.list.proofs.text.put_field.Goals as goal
 
 pub returns : goal.returns

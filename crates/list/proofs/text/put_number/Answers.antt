@@ -23,4 +23,5 @@ pub returns-clause-puts : goal.returns-clause-puts
 returns-clause-puts c =
     let last : c.loop-rest.rest < 10 = omega arith in
     let here : c.loop-rest.first < length c.loop-rest.digits = omega arith in
-    put_as (all_written _ _ _ 20 _ last here c.loop-rest.invariant.size c.loop-rest.invariant.written) c.put_bytes.ensures
+    let i = c.loop-rest.invariant in
+    put_as (all_written _ _ _ 20 _ last here i.size i.written) c.put_bytes.ensures

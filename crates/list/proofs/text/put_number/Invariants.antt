@@ -1,5 +1,5 @@
--- `list::text::put_number` meets its contract. The loop's invariant: the digits that are written stand behind those of what is
--- left, for which there is room.
+-- The invariant of the loop of `list::text::put_number`: the digits that are written stand behind those of what is left, for
+-- which there is room.
 use mathlib.Core.List.{◌++◌}
 use mathlib.Core.Path.{◌≡◌}
 use Prim.Native.Nat.{◌+◌, ◌^◌, ◌≤◌, ◌<◌}
