@@ -13,12 +13,18 @@ returns-then-code-end c = past_code _ _ _ c.if-end-entry.false c.if-code-end.tru
 
 pub returns-then-starts_at : goal.returns-then-starts_at
 unfolding told
-returns-then-starts_at c = at_start _ _ _ c.if-end-entry.false c.if-code-end.false c.requires c.starts_at.ensures c.if-starts_at.true
+returns-then-starts_at c =
+    at_start _ _ _ c.if-end-entry.false c.if-code-end.false c.requires c.starts_at.ensures
+    c.if-starts_at.true
 
 pub returns-then-entry-code : goal.returns-then-entry-code
 unfolding told
-returns-then-entry-code c = at_end _ _ _ c.if-end-entry.false c.if-code-end.false c.requires c.starts_at.ensures c.if-starts_at.false c.if-entry-code.true
+returns-then-entry-code c =
+    at_end _ _ _ c.if-end-entry.false c.if-code-end.false c.requires c.starts_at.ensures
+    c.if-starts_at.false c.if-entry-code.true
 
 pub returns-else-entry-code : goal.returns-else-entry-code
 unfolding told
-returns-else-entry-code c = at_neither _ _ _ c.if-end-entry.false c.if-code-end.false c.requires c.starts_at.ensures c.if-starts_at.false c.if-entry-code.false
+returns-else-entry-code c =
+    at_neither _ _ _ c.if-end-entry.false c.if-code-end.false c.requires c.starts_at.ensures
+    c.if-starts_at.false c.if-entry-code.false

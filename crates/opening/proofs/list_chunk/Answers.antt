@@ -13,8 +13,11 @@ use Rattle.opening.proofs.Kept.{few_targets, first_kept, next_kept, kept_length,
 use Rattle.opening.proofs.list_chunk.Goals as goal
 
 -- the width that its tag has
-as_wide : {code : List ℕ} {at w : ℕ} → Start width_of code at → w ≡ width_of (get_or code at 0) → Wide width_of code at w
-as_wide {code} {at} s e = let there = width_there width_of code at (start_wide width_of code s) in rw (e ∙ sym there.tag) there
+as_wide : {code : List ℕ} {at w : ℕ} → Start width_of code at → w ≡ width_of (get_or code at 0)
+    → Wide width_of code at w
+as_wide {code} {at} s e =
+    let there = width_there width_of code at (start_wide width_of code s) in
+    rw (e ∙ sym there.tag) there
 
 pub store_entry-requires : goal.store_entry-requires
 store_entry-requires c = c.requires.records_value
