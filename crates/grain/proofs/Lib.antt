@@ -1,3 +1,2 @@
--- The laws and steps that the walk cites.
-pub mod Rules
+-- The laws that the proof of the call cites.
 pub mod Spans
