@@ -5,8 +5,8 @@
 //!
 //! writes every printed file in its place, and `tests/committed.rs` holds the committed files to what is printed.
 //!
-//! A printed file is a text with holes, such as `grain_verify/proof.txt`, which reads as the proof does, and a module
-//! beside it that says what stands in each hole. What serves any wide proof is in the modules below:
+//! A printed file is a text with holes, such as `grain_verify/invariants.txt`, which reads as the proof does, and a
+//! module beside it that says what stands in each hole. What serves any wide proof is in the modules below:
 //!
 //! | module | what it has |
 //! |---|---|
@@ -40,5 +40,5 @@ impl File {
 
 /// Every printed file.
 pub fn files() -> Vec<File> {
-    vec![File { place: "crates/grain/proofs/grain_verify/Proof.antt", text: grain_verify::proof() }]
+    vec![File { place: "crates/grain/proofs/grain_verify/Invariants.antt", text: grain_verify::invariants() }]
 }

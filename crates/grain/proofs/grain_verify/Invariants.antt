@@ -1,5 +1,6 @@
 -- `grain::grain_verify` meets its contract: between two chunks a call stands as the laws of its stages say. The measure
--- is how many chunks are left.
+-- is how many chunks are left. This file is printed: gen/src/grain_verify/ has its text and the list of parameters, and
+-- gen/src/lib.rs says how to print it again.
 use mathlib.Core.List.{List}
 use Prim.Native.Nat.{ℕ, ◌-◌}
 use lib.ListN.{length}
@@ -9,7 +10,8 @@ use Rattle.verify.proofs.Between.{Stands}
 use Rattle.grain.proofs.grain_verify.Given as goal
 
 -- the input that the lists of a call hold
-abbrev pub held : (rights functions : ℕ) (constants names : List ℕ) (tokens op_assignments : ℕ)
+abbrev pub held :
+    (rights functions : ℕ) (constants names : List ℕ) (tokens op_assignments : ℕ)
     (chains steps switches cases ranges code : List ℕ) (chunks : ℕ) → Input
 held rights functions constants names tokens op_assignments chains steps switches cases ranges code chunks = record {
   script = record {
