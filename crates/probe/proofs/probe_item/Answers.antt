@@ -1,6 +1,4 @@
 -- `probe::probe_item` meets its contract: the numbers of the answer are carried over.
-use mathlib.Core.Path.{◌∙◌, ap, sym}
-use borrow.Author.Rules.{rules}
 use Rattle.listing.specs.Listing.{item_told}
 use Rattle.probe.proofs.Across.{listed}
 use Rattle.probe.proofs.probe_item.Goals as goal

@@ -1,6 +1,4 @@
 -- `probe::probe_u32` meets its contract: the numbers of the answer are carried over.
-use mathlib.Core.Path.{◌∙◌, ap, sym}
-use borrow.Author.Rules.{rules}
 use Rattle.code.specs.Answers.{numbered32}
 use Rattle.probe.proofs.Across.{told}
 use Rattle.probe.proofs.probe_u32.Goals as goal

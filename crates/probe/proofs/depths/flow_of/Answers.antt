@@ -1,5 +1,4 @@
 -- `probe::depths::flow_of` meets its contract: the flow in the tag's word.
-use borrow.Author.Rules.{rules}
 use Rattle.probe.proofs.depths.flow_of.Goals as goal
 
 pub returns : goal.returns

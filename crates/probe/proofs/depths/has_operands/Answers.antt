@@ -1,5 +1,4 @@
 -- `probe::depths::has_operands` meets its contract: its tests are those of the definition, in the same order.
-use borrow.Author.Rules.{rules}
 use Rattle.probe.proofs.Held.{too_many_pops, by_pushes}
 use Rattle.probe.proofs.depths.has_operands.Goals as goal
 

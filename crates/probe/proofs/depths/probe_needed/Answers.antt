@@ -1,5 +1,4 @@
 -- `probe::depths::probe_needed` meets its contract: a truth value crosses as 0 or 1.
-use borrow.Author.Rules.{rules}
 use Rattle.probe.proofs.Held.{byte}
 use Rattle.probe.proofs.depths.probe_needed.Goals as goal
 

@@ -15,7 +15,8 @@ word_at-requires c =
 pub effect-effect-requires : goal.effect-effect-requires
 effect-effect-requires c =
     let there = sym c.is_there.ensures ∙ c.if-not-is_there.false in
-    let r = ready _ _ _ _ _ _ _ _ there in record { shape = c.word_at.ensures; at_nonzero = r.wide; chain_entry = r.chain_entry }
+    let r = ready _ _ _ _ _ _ _ _ there in
+    record { shape = c.word_at.ensures; at_nonzero = r.wide; chain_entry = r.chain_entry }
 
 pub returns : goal.returns
 returns c =

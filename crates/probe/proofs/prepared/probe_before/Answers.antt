@@ -1,6 +1,5 @@
 -- `probe::prepared::probe_before` meets its contract: the outcome's answer in numbers, and the marks as they were left.
-use mathlib.Core.Path.{◌∙◌, ap, sym}
-use borrow.Author.Rules.{rules}
+use mathlib.Core.Path.{◌∙◌, ap}
 use Rattle.answer.specs.Answer.{told}
 use Rattle.before.specs.Calls.{verdict_of}
 use Rattle.probe.proofs.prepared.probe_before.Goals as goal
