@@ -1,0 +1,24 @@
+-- `probe::instruction::probe_targets` meets its contract: the count is carried over where the entries are there.
+use mathlib.Core.Path.{◌∙◌, sym}
+use Rattle.probe.proofs.Across.{untold, told_if_lem}
+use Rattle.guards.proofs.Ready.{ready}
+use Rattle.probe.proofs.instruction.probe_targets.Goals as goal
+
+pub returns-then-not-is_there : goal.returns-then-not-is_there
+returns-then-not-is_there c = untold _ _ (sym c.is_there.ensures ∙ c.if-not-is_there.true)
+
+pub word_at-requires : goal.word_at-requires
+word_at-requires c =
+    let there = sym c.is_there.ensures ∙ c.if-not-is_there.false in
+    (ready _ _ _ _ _ _ _ _ there).wide
+
+pub target_count-requires : goal.target_count-requires
+target_count-requires c =
+    let there = sym c.is_there.ensures ∙ c.if-not-is_there.false in
+    let r = ready _ _ _ _ _ _ _ _ there in
+    record { flow = c.flow_of-flow.ensures _ c.word_at.ensures; at_nonzero = r.wide; switch_entry = r.switch_entry }
+
+pub returns : goal.returns
+returns c =
+    let there = sym c.is_there.ensures ∙ c.if-not-is_there.false in
+    told_if_lem _ _ there (c.target_count.ensures.1 _ _)
