@@ -1,6 +1,6 @@
 -- One claim over the table of bench cases: the definition of the whole call gives each row's outcome. Both sides are computed,
 -- and one law turns the equation of the lists into the claim at each row.
-use mathlib.Core.List.{List, ◌∷◌, map}
+use mathlib.Core.List.{List, [], ◌∷◌, map}
 use mathlib.Core.Path.{◌≡◌, refl}
 use lib.Count.{ones}
 use Rattle.before.specs.Before.{first, limits_test, tables_test, lent_test, rights_test, constants_test, function_test}
@@ -36,6 +36,7 @@ computed = refl
 
 -- lists that are equal under two functions have the same of both at each element
 same_at : {A B : Type 0} (f g : A → B) (l : List A) → map f l ≡ map g l → {x : A} → x ∈ l → f x ≡ g x
+same_at f g [] e m = elim m [ ]
 same_at f g (y ∷ l) e (here q) = rw q (cc)
 same_at f g (y ∷ l) e (there m) = let rest : map f l ≡ map g l = cc in same_at f g l rest m
 

@@ -5,10 +5,11 @@
 
 ghost use Rattle.std.specs.Prelude.{◌≡◌};
 ghost use Rattle.bench.specs.Bench.{asked, lent};
-ghost use Rattle.verify.specs.Call.{result};
+ghost use Rattle.verify.specs.Call as call;
 ghost use Rattle.judging.specs.Spans.{spans_of};
 
 use answer::verdict::Verdict;
+use std::io;
 
 // Asks about a script of constants and code alone, with the table's memory lent.
 fn ask(
@@ -19,10 +20,10 @@ fn ask(
     ends: &[u32],
     declared: &[u16],
 ) -> Verdict
-    ensures* { λ r. ⌜ r ≡ (result
+    ensures { result ≡ (call.result
         (asked rights constants.now code.now
         (spans_of entries.now ends.now declared.now))
-        (spans_of entries.now ends.now declared.now) lent).verdict ⌝ }
+        (spans_of entries.now ends.now declared.now) lent).verdict }
 {
     let names: [u8; 0] = [];
     let words: [u32; 0] = [];
@@ -88,80 +89,82 @@ fn ask_two(entry: u32, end: u32) -> Verdict {
     )
 }
 
-fn tell_number(number: u64) {
-    io::print_decimal(1, number);
-    io::write_all(1, b" ");
+// Here and below the only error is that of a write that failed.
+fn tell_number(rt: &impl Print, number: u64) -> io::Result<()> {
+    print!(rt; "{number} ")
 }
 
-fn tell(verdict: Verdict) {
-    tell_number(verdict.kind as u64);
-    tell_number(verdict.chunk as u64);
-    tell_number(verdict.at);
-    tell_number(verdict.p);
-    tell_number(verdict.q);
-    tell_number(verdict.instructions);
-    tell_number(verdict.reached);
-    io::print_decimal(1, verdict.taken);
-    io::write_all(1, b"\n");
+fn tell(rt: &impl Print, verdict: Verdict) -> io::Result<()> {
+    tell_number(rt, verdict.kind as u64)?;
+    tell_number(rt, verdict.chunk as u64)?;
+    tell_number(rt, verdict.at)?;
+    tell_number(rt, verdict.p)?;
+    tell_number(rt, verdict.q)?;
+    tell_number(rt, verdict.instructions)?;
+    tell_number(rt, verdict.reached)?;
+    let taken = verdict.taken;
+    println!(rt; "{taken}")
 }
 
-fn tell_part(code: &[u8], entry: u32, end: u32, declared: u16) {
-    tell(ask_part(code, entry, end, declared));
+fn tell_part(rt: &impl Print, code: &[u8], entry: u32, end: u32, declared: u16) -> io::Result<()> {
+    tell(rt, ask_part(code, entry, end, declared))
 }
 
 // P1 to P7.
-fn tell_first() {
-    tell_part(b"\x01\x07", 0, 2, 9);
-    tell_part(b"\x01\x07", 0, 2, 0);
-    tell_part(b"\x07", 0, 1, 9);
-    tell_part(b"\x01", 0, 1, 9);
-    tell_part(b"", 0, 0, 9);
-    tell_part(b"\x38\x00\x00\x00\x00", 0, 5, 9);
-    tell_part(b"\x38\x01\x00\x00\x00", 0, 5, 9);
-    tell_part(b"\x38\x05\x00\x00\x00", 0, 5, 9);
-    tell_part(b"\x3c\xff\xff\xff\xff", 0, 5, 9);
+fn tell_first(rt: &impl Print) -> io::Result<()> {
+    tell_part(rt, b"\x01\x07", 0, 2, 9)?;
+    tell_part(rt, b"\x01\x07", 0, 2, 0)?;
+    tell_part(rt, b"\x07", 0, 1, 9)?;
+    tell_part(rt, b"\x01", 0, 1, 9)?;
+    tell_part(rt, b"", 0, 0, 9)?;
+    tell_part(rt, b"\x38\x00\x00\x00\x00", 0, 5, 9)?;
+    tell_part(rt, b"\x38\x01\x00\x00\x00", 0, 5, 9)?;
+    tell_part(rt, b"\x38\x05\x00\x00\x00", 0, 5, 9)?;
+    tell_part(rt, b"\x3c\xff\xff\xff\xff", 0, 5, 9)
 }
 
 // P8 to P12.
-fn tell_second() {
+fn tell_second(rt: &impl Print) -> io::Result<()> {
     tell_part(
+        rt,
         b"\x01\x09\x3c\x0d\x00\x00\x00\x04\x38\x02\x00\x00\x00\x01\x07",
         0,
         15,
         9,
-    );
-    tell_part(b"\x3d\x06\x00\x00\x00\x0e\x01\x07", 0, 8, 9);
-    tell_part(b"\x3d\x05\x00\x00\x00\x0e\x01\x07", 0, 8, 9);
-    tell(ask_misaligned());
-    tell(ask_instruction());
-    tell(ask_constant());
+    )?;
+    tell_part(rt, b"\x3d\x06\x00\x00\x00\x0e\x01\x07", 0, 8, 9)?;
+    tell_part(rt, b"\x3d\x05\x00\x00\x00\x0e\x01\x07", 0, 8, 9)?;
+    tell(rt, ask_misaligned())?;
+    tell(rt, ask_instruction())?;
+    tell(rt, ask_constant())
 }
 
 // The other cases of the document.
-fn tell_third() {
-    tell_part(b"\x00", 0, 1, 9);
-    tell_part(b"\x24\x00", 0, 2, 9);
-    tell_part(b"\x01\x07\x24\x00\x00", 0, 2, 9);
-    tell_part(b"\x01\x07\x0f", 0, 3, 9);
-    tell_part(b"\x38\x00\x00\x00\x00", 0, 3, 9);
-    tell_part(b"\x01\x0d\x07", 0, 3, 9);
+fn tell_third(rt: &impl Print) -> io::Result<()> {
+    tell_part(rt, b"\x00", 0, 1, 9)?;
+    tell_part(rt, b"\x24\x00", 0, 2, 9)?;
+    tell_part(rt, b"\x01\x07\x24\x00\x00", 0, 2, 9)?;
+    tell_part(rt, b"\x01\x07\x0f", 0, 3, 9)?;
+    tell_part(rt, b"\x38\x00\x00\x00\x00", 0, 3, 9)?;
+    tell_part(rt, b"\x01\x0d\x07", 0, 3, 9)
 }
 
 // Those on which frauds show.
-fn tell_tried() {
-    tell(ask_two(2, 6));
-    tell(ask_two(1, 2));
+fn tell_tried(rt: &impl Print) -> io::Result<()> {
+    tell(rt, ask_two(2, 6))?;
+    tell(rt, ask_two(1, 2))?;
     tell_part(
+        rt,
         b"\x01\x09\x3c\x0d\x00\x00\x00\x04\x38\x02\x00\x00\x00\x01\x07\x0f\x0f",
         0,
         17,
         9,
-    );
+    )
 }
 
-fn main() {
-    tell_first();
-    tell_second();
-    tell_third();
-    tell_tried();
+fn main(rt: HostRuntime) -> io::Result<()> {
+    tell_first(&rt)?;
+    tell_second(&rt)?;
+    tell_third(&rt)?;
+    tell_tried(&rt)
 }
