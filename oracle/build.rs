@@ -192,8 +192,8 @@ fn main() {
     println!("cargo:rustc-cfg=feature=\"no_ast\"");
 }
 
-/// Where `rt lib` puts the proved libraries. The tests link them in any case; a program that
-/// can do without asks whether both are there.
+/// Where `rt lib` puts the proved libraries, libgrain.a and libprobe.a. The tests link them in
+/// any case; a program that can do without asks whether both are there.
 fn link() {
     let made = ["grain", "probe"].map(|name| {
         let folder = variable("CARGO_MANIFEST_DIR").join(format!("../crates/{name}/out"));

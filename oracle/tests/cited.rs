@@ -15,14 +15,17 @@
 //! - Names in backquotes after "edit" or "edits", or in a column headed so, are must-fail edits.
 //! - A table of crates has a row for each crate of crates.txt, and for no other.
 //!
-//! Of docs/LANDINGS.md only the links count: it tells what was.
+//! Of docs/LANDINGS.md and docs/PORT.md only the links count: they tell what was.
 
 use std::collections::{BTreeMap, BTreeSet};
 use std::fs;
 use std::path::Path;
 
-/// The page that tells what was.
-const HISTORY: &str = "docs/LANDINGS.md";
+/// The pages that tell what was.
+const HISTORY: [&str; 2] = ["docs/LANDINGS.md", "docs/PORT.md"];
+
+/// Where a path leads to what is built.
+const BUILT: [&str; 2] = ["target", "out"];
 
 /// Words that a page may cite though no source has them, each with the reason.
 const ELSEWHERE: [(&str, &str); 1] = [("decode", "a function of the original")];
@@ -55,7 +58,8 @@ impl House {
             .partition(|(path, _)| path.ends_with(".md"));
         let listed = sources["crates.txt"].lines();
         let listed = listed.filter_map(|line| line.split_once(':'));
-        let crates = listed.map(|(name, _)| name.to_string()).collect();
+        let named = listed.filter_map(|(line, _)| line.split_whitespace().next());
+        let crates = named.map(str::to_string).collect();
         let texts = sources.iter().flat_map(|(path, text)| [path, text]);
         let words = texts.flat_map(|text| words_of(text)).map(str::to_string);
         House {
@@ -177,7 +181,10 @@ fn read(root: &Path, folder: &str, files: &mut Files) {
         let entry = entry.expect("an entry can be listed");
         let name = entry.file_name().to_string_lossy().into_owned();
         let path = format!("{folder}{name}");
-        if name.starts_with('.') || name == "target" || path == "oracle/tests/cited.rs" {
+        if name.starts_with('.')
+            || BUILT.contains(&name.as_str())
+            || path == "oracle/tests/cited.rs"
+        {
             continue;
         }
         if entry.path().is_dir() {
@@ -331,7 +338,8 @@ impl<'a> Reader<'a> {
         for word in line.split(parts) {
             let path = word.trim_end_matches(['.', '/']);
             let folder = path.split_once('/').map(|(folder, _)| folder);
-            if folder.is_some_and(|folder| FOLDERS.contains(&folder)) {
+            let built = path.split('/').any(|step| BUILT.contains(&step));
+            if folder.is_some_and(|folder| FOLDERS.contains(&folder)) && !built {
                 self.demand(self.house.is_there(path), "no such path", path);
             }
             if let Some(files) = self.house.short(path) {
@@ -453,7 +461,7 @@ fn read_page(house: &House, path: &str, text: &str) -> (usize, Vec<String>) {
     };
     let lines: Vec<&str> = text.lines().collect();
     lines.iter().for_each(|line| reader.follow_links(line));
-    if path != HISTORY {
+    if !HISTORY.contains(&path) {
         lines.iter().for_each(|line| reader.check_line(line));
         let tables = lines.split(|line| cells(line).is_empty());
         for rows in tables.filter(|rows| rows.len() > 2) {
@@ -598,5 +606,5 @@ fn of_the_history_only_links_count() {
     let house = invented();
     let text = "[other](OTHERS.md), `total_of`, crates/sums/specs/Terms.antt";
     assert_eq!(read_page(&house, "docs/PAGE.md", text).1.len(), 3);
-    assert_eq!(read_page(&house, HISTORY, text).1.len(), 1);
+    assert_eq!(read_page(&house, HISTORY[0], text).1.len(), 1);
 }
