@@ -7,7 +7,7 @@ A name is ours if a file of specs/ or a file that lies directly in proofs/ decla
 a constructor. `camelCase` and `with-dashes` become `camel_case` and `with_dashes`; a type's name keeps its dash, as in
 `Lent-marks`. What Rattle makes of a function's source (the files below proofs/FUNCTION/ name it) stays as it is, and so
 does a name that a file takes from a library. Functions, files, exported names and texts in quotes are not touched.
---check writes nothing. Two names that would become one are told, and then nothing is written either.
+--check writes nothing. Two names of one file that would become one are told.
 """
 
 import os

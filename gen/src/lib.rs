@@ -1,5 +1,5 @@
-//! Prints the proofs that are lists over a function's parameters. Nobody can edit such a file by hand: a parameter
-//! more moves every position in it.
+//! Prints the proof files that are lists over a function's parameters: a parameter more is one line here, and each list
+//! that it stands in is printed again.
 //!
 //!     cargo run --offline --release --manifest-path gen/Cargo.toml
 //!
@@ -12,9 +12,11 @@
 //! |---|---|
 //! | `text` | lists and tuples as antt writes them, and lines broken where they may be |
 //! | `template` | a text with holes, filled |
-//! | `context` | a walk's context by names, so that no position is counted by hand |
-//! | `walk` | a walk followed step by step, with a hole for each step that names positions |
-//! | `parameter` | what a parameter of each sort is to the program logic |
+//! | `parameter` | a parameter's sort in Rattle, and what it is to the program logic where a walk is written by hand |
+//! | `context` | such a walk's context by names, so that no position is counted by hand |
+//! | `walk` | such a walk followed step by step, with a hole for each step that names positions |
+//!
+//! No file that is printed today is such a walk: the last three serve it by a parameter's sort alone.
 
 pub mod context;
 pub mod grain_verify;

@@ -92,7 +92,7 @@ height_test height declared = cond (ltb declared height) (some (Answer.StackExce
 
 -- What a walk comes to. The last line, of a walk that is out of units, is there since a definition has to answer for
 -- every run. It is never used: a walk has as many units as there can be items, so that no item of a chunk that passed
--- the checks before its walk is left when they are spent. `Walk-Ends` in proofs/Demand says so, and `walk_told`
+-- the checks before its walk is left when they are spent. `walk_ends` in proofs/Demand says so, and `walk_told`
 -- there, that such a chunk is judged by one of the two lines before it.
 unfoldable pub measured : (declared : ℕ) → Run Answer Log → Judged
 measured declared (accepted b) =

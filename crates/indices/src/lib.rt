@@ -27,7 +27,7 @@ pub struct Sizes {
 }
 
 // Every reference is fine, or the first bad one, with its pool's number.
-#[derive(Drop)]
+#[derive(Clone, Copy)]
 pub enum Checked {
     Fine,
     Bad { index: u32, pool: u64 },

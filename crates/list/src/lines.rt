@@ -11,7 +11,7 @@ use listing::{Item, Listed};
 pub const ROOM: usize = 128;
 
 // The length of a line that was written, and the place after what was read.
-#[derive(Drop)]
+#[derive(Clone, Copy)]
 pub struct Written {
     pub length: usize,
     pub next: usize,

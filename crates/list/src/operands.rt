@@ -94,7 +94,7 @@ const SIZES: [u16; 80] = [
 ];
 
 // The bytes of each operand, 0 where there is none.
-#[derive(Drop)]
+#[derive(Clone, Copy)]
 pub struct Sizes {
     pub first: usize,
     pub second: usize,

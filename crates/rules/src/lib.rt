@@ -10,7 +10,7 @@ pub mod rights;
 pub mod shapes;
 
 // How many operands an instruction needs, pops and pushes.
-#[derive(Drop)]
+#[derive(Clone, Copy)]
 pub struct Effect {
     pub needs: u32,
     pub pops: u32,

@@ -31,6 +31,7 @@ fn clear_both(records: &mut [u32], work: &mut [u32])
 
 // Everything before the chunks, of which there are so many, with room for so many heights. Records and work are zeroed
 // at the first store.
+#[tactic(auto, unfolding(crate::specs::Stages::opened, crate::specs::Stages::words_on, answer::specs::Answer::told))]
 pub fn begin(
     rights: u32,
     functions: u32,

@@ -18,6 +18,11 @@ use Rattle.walk.specs.Leaving.{jumps_to, Pushed, BackOrDone, noted, RoomToLeave,
 use Rattle.walk.specs.Hand.{fallen, entered_hand}
 use Rattle.walk.proofs.Turns.{noted_length, noted_front}
 
+-- noting depths leaves the keys as they were
+pub keys_kept : (room : Room) (h : Hand) (records records₁ : List ℕ) → records₁ ≡ noted room h records → room.keys ≤ room.base
+    → take room.keys records₁ ≡ take room.keys records
+keys_kept room h records records₁ n k = rw n (noted_front room h records k)
+
 module _ (room : Room) (h : Hand) (edges : Edges) (targets records work : List ℕ) (L : RoomToLeave room h edges.next targets records work)
     {records₁ : List ℕ} (n : records₁ ≡ noted room h records)
     {waiting : ℕ} {work₁ : List ℕ} (P : Pushed targets edges.jumped h.waiting work waiting work₁)

@@ -189,6 +189,7 @@ fn enter_item(hand: Hand, post: u32, waiting: usize) -> Hand
 
 // The edges of an instruction whose tests have all passed: its depths are noted, its jumps pushed, so many of them, and
 // the next item is what falls through, or else the one pushed last.
+#[tactic(auto, using(crate::proofs::Leaving::keys_kept))]
 fn leave(
     code: &[u8],
     switches: &[u32],

@@ -1,6 +1,5 @@
 -- `verify::stages::advance` meets its contract: one way out for each state and judgement.
 use native.Mathlib.Omega.{arith}
-use borrow.Author.Rules.{rules}
 use Rattle.verify.proofs.Between.{sums_fit, advances_sums, advances_ends, advances_ended}
 use Rattle.verify.proofs.stages.advance.Goals as goal
 

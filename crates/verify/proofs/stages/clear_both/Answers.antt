@@ -1,5 +1,4 @@
 -- `verify::stages::clear_both` meets its contract: as many words as there are.
-use borrow.Author.Rules.{rules}
 use Rattle.judging.proofs.Walking.{all_cleared}
 use Rattle.verify.proofs.stages.clear_both.Goals as goal
 

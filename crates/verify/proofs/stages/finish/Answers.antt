@@ -1,6 +1,5 @@
 -- `verify::stages::finish` meets its contract: one way out for each state.
 use mathlib.Core.Path.{sym, ap, ◌∙◌}
-use borrow.Author.Rules.{rules}
 use Rattle.verify.specs.Stages.{finished}
 use Rattle.verify.proofs.stages.finish.Goals as goal
 

@@ -1,6 +1,5 @@
 -- `verify::stages::goes_on` meets its contract: one way out for each state.
 use mathlib.Core.Path.{sym, ap}
-use borrow.Author.Rules.{rules}
 use Rattle.verify.specs.declared.stages.State.{State}
 use Rattle.verify.specs.Stages.{goes_on}
 use Rattle.verify.proofs.stages.goes_on.Goals as goal

@@ -1,5 +1,6 @@
 -- `walk::item::leave` meets its contract: the depths noted, the jumps pushed, and one of two ways to the next item.
-use Rattle.walk.proofs.Leaving.{keys_there, still_rises, along, waits_room, nothing_above, fell, went_back}
+use Rattle.walk.proofs.Leaving.{keys_there, still_rises, along, waits_room, nothing_above, went_back}
+use borrow.Author.Rules.{rules}
 use Rattle.walk.proofs.item.leave.Goals as goal
 
 pub push_jumps-waiting-requires-clause-at_in_bounds : goal.push_jumps-waiting-requires-clause-at_in_bounds
@@ -19,11 +20,6 @@ pub fall_to-next-requires-clause-slot_bound : goal.fall_to-next-requires-clause-
 fall_to-next-requires-clause-slot_bound c =
     along _ _ c.args.edges _ _ _ c.requires.room_to_leave c.note_at.ensures
     c.push_jumps-waiting.ensures c.enter_item-entered.ensures
-
-pub returns-then-edges : goal.returns-then-edges
-returns-then-edges c =
-    fell _ _ c.args.edges _ _ _ c.requires.room_to_leave c.note_at.ensures
-    c.push_jumps-waiting.ensures c.enter_item-entered.ensures c.fall_to-next.ensures c.if-edges.true
 
 pub take_back-requires-clause-keys_in_bounds : goal.take_back-requires-clause-keys_in_bounds
 take_back-requires-clause-keys_in_bounds c =
@@ -46,7 +42,4 @@ take_back-requires-clause-clear c =
     c.push_jumps-waiting.ensures c.enter_item-entered.ensures
 
 pub returns : goal.returns
-returns c =
-    went_back _ _ c.args.edges _ _ _ c.requires.room_to_leave c.note_at.ensures
-    c.push_jumps-waiting.ensures c.enter_item-entered.ensures
-    c.take_back.ensures c.if-edges.false
+returns c = search (rules, went_back)
