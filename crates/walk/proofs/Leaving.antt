@@ -28,7 +28,7 @@ module _ (room : Room) (h : Hand) (edges : Edges) (targets records work : List �
     {waiting : ℕ} {work₁ : List ℕ} (P : Pushed targets edges.jumped h.waiting work waiting work₁)
     {in_hand : Hand} (e : in_hand ≡ entered_hand h edges.after.operands waiting) where
   same_front : take room.keys records₁ ≡ take room.keys records
-  same_front = rw n (noted_front room h records L.keys_behind)
+  same_front = keys_kept room h records records₁ n L.keys_behind
 
   pub keys_there : room.keys ≤ length records₁
   keys_there = omega (arith, ap length n, noted_length room h records, L.keys_room)
