@@ -1,5 +1,5 @@
-//! Prints the proof files that are lists over a function's parameters: a parameter more is one line here, and each list
-//! that it stands in is printed again.
+//! Prints the proof files that are lists over a function's parameters: a parameter more is a line in the list here, and
+//! what is printed follows it. What a text says of one parameter alone stays to be written in that text.
 //!
 //!     cargo run --offline --release --manifest-path gen/Cargo.toml
 //!
@@ -16,7 +16,8 @@
 //! | `context` | such a walk's context by names, so that no position is counted by hand |
 //! | `walk` | such a walk followed step by step, with a hole for each step that names positions |
 //!
-//! No file that is printed today is such a walk: the last three serve it by a parameter's sort alone.
+//! No file that is printed today is such a walk. Of the last three only `Sort` and `Width` are used; the rest print the
+//! words of an older Rattle, and stand with their tests.
 
 pub mod context;
 pub mod grain_verify;

@@ -71,7 +71,7 @@ impl Sort {
 /// A parameter, at its place.
 #[derive(Clone)]
 pub struct Parameter {
-    /// As antt has it: `op-assignments` for `op_assignments`.
+    /// As a walk by hand spells it: `op-assignments` for `op_assignments`.
     pub name: String,
     pub sort: Sort,
     /// The number of its lifetime, where it has one: how many parameters before it are references.

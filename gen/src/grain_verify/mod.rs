@@ -2,7 +2,8 @@
 //! too.
 //!
 //! A parameter more is a line in `PARAMETERS`, where the function itself takes and hands on its parameters in that
-//! order: `begin` gets its numbers and shared slices, and how many chunks there are.
+//! order: `begin` gets its numbers and shared slices, and how many chunks there are. What `begin` gets is a field of the
+//! record in `invariants.txt`, too.
 
 use crate::parameter::{Sort, Width};
 use crate::template::Holes;
