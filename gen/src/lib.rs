@@ -43,5 +43,5 @@ impl File {
 
 /// Every printed file.
 pub fn files() -> Vec<File> {
-    vec![File { place: "crates/grain/proofs/grain_verify/Invariants.antt", text: grain_verify::invariants() }]
+    vec![File { place: "crates/grain/proofs/judged/Invariants.antt", text: grain_verify::invariants() }]
 }

@@ -15,14 +15,14 @@
 //! - Names in backquotes after "edit" or "edits", or in a column headed so, are must-fail edits.
 //! - A table of crates has a row for each crate of crates.txt, and for no other.
 //!
-//! Of docs/LANDINGS.md and docs/PORT.md only the links count: they tell what was.
+//! Of docs/LANDINGS.md, docs/PORT.md and docs/DESIGN-PASS.md only the links count: they tell what was.
 
 use std::collections::{BTreeMap, BTreeSet};
 use std::fs;
 use std::path::Path;
 
 /// The pages that tell what was.
-const HISTORY: [&str; 2] = ["docs/LANDINGS.md", "docs/PORT.md"];
+const HISTORY: [&str; 3] = ["docs/LANDINGS.md", "docs/PORT.md", "docs/DESIGN-PASS.md"];
 
 /// Where a path leads to what is built.
 const BUILT: [&str; 2] = ["target", "out"];

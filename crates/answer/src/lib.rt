@@ -1,26 +1,39 @@
-// The answer: a case for each kind of document 01, and its numbers as they cross to other languages.
-// `verdict_of` promises the numbers of every case.
+// The answer: what an acceptance counts, a case for each kind of refusal of document 01, and the numbers of both as they
+// cross to other languages. `verdict_of` promises the numbers of every case.
 // Which answer it is, is left to those who test.
 #![tactic(auto)]
 
 pub mod verdict;
 
 // How many operands, iterators and handlers there are at a place.
-#[derive(Clone, Copy)]
+#[derive(Clone, Copy, PartialEq, Eq)]
 pub struct Depths {
     pub operands: u32,
     pub iterators: u32,
     pub handlers: u32,
 }
 
-// The answer, a case for each kind of document 01, in the order of their numbers.
-#[derive(Clone, Copy)]
-pub enum Answer {
-    Accepted {
-        instructions: u64,
-        reached: u64,
-        taken: u64,
-    },
+// What an acceptance counts: the instructions of the code, those reached, and the items taken.
+#[derive(Clone, Copy, PartialEq, Eq)]
+pub struct Accepted {
+    pub instructions: u64,
+    pub reached: u64,
+    pub taken: u64,
+}
+
+// The buffers, by the numbers that kind 3 gives them.
+#[derive(Clone, Copy, PartialEq, Eq)]
+pub enum Buffer {
+    Marks = 1,
+    Heights = 2,
+    Records = 3,
+    Work = 4,
+}
+
+// A refusal, a case for each kind of document 01 from 1 on, in the order of their numbers. What the document numbers is
+// kept as its number: `verdict_of` and the tests of `before` answer for any.
+#[derive(Clone, Copy, PartialEq, Eq)]
+pub enum Refusal {
     TooLarge(u64),
     BadTable {
         table: u64,
@@ -72,9 +85,5 @@ pub enum Answer {
     HandlerUnderflow(u64),
 }
 
-// A test passes, or refuses with an answer.
-#[derive(Clone, Copy)]
-pub enum Outcome {
-    Passed,
-    Refused(Answer),
-}
+// The answer: accepted with these counts, or refused.
+pub type Answer = Result<Accepted, Refusal>;

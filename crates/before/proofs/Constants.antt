@@ -1,18 +1,15 @@
 -- The constants upward: what is left to test from the constant at hand on is what there was to test from the first.
 use mathlib.Core.List.{List, [], ◌∷◌}
-use mathlib.Core.Option.{none}
+use mathlib.Core.Option.{none, some}
 use mathlib.Core.Path.{◌≡◌, refl, sym, ◌∙◌}
 use Prim.Native.Nat.{ℕ, ◌+◌, ◌≤◌, ◌<◌}
 use native.Mathlib.Numerals.{add-one}
 use native.Mathlib.Omega.{arith}
 use lib.ListN.{length, get_or, drop}
 use lib.Seq.{drop-cons, drop-length}
-use Rattle.answer.specs.declared.Answer.{Answer}
-use Rattle.answer.specs.Answer.{told}
+use Rattle.answer.specs.declared.Refusal.{Refusal}
 use Rattle.before.specs.Before.{first, rights_test, constants_test}
-use Rattle.answer.specs.declared.Outcome.{Outcome}
-use Rattle.answer.specs.declared.Outcome.TheVariants.{Passed, Refused}
-use Rattle.before.proofs.Tests.{goes_on, stops, last}
+use Rattle.before.proofs.Tests.{last}
 
 -- the constants before the one at hand are granted
 pub record Granted (rights : ℕ) (words : List ℕ) (i : ℕ) : Type 0 where
@@ -32,17 +29,16 @@ module _ {rights : ℕ} {words : List ℕ} {i : ℕ} (inv : Granted rights words
 
   module _ (h : i < length words) where
     -- the one at hand, then those after it
-    in_turn : constants_test rights words
+    pub in_turn : constants_test rights words
         ≡ first (rights_test (get_or words i 0) rights ∷ constants_test rights (drop (i + 1) words) ∷ [])
     unfolding constants_test
     in_turn = sym inv.left ∙ rw (drop-cons words i 0 h, add-one)
 
-    module _ {r : Outcome} (found : told r ≡ rights_test (get_or words i 0) rights) where
-      pub one_more : r ≡ Passed → Granted rights words (i + 1)
-      one_more p = record {
-        within = omega arith;
-        left = sym (in_turn ∙ sym (goes_on (constants_test rights (drop (i + 1) words) ∷ []) found p) ∙ last _);
-      }
+    pub one_more : none ≡ rights_test (get_or words i 0) rights → Granted rights words (i + 1)
+    unfolding first
+    one_more e = record { within = omega arith; left = sym (in_turn ∙ rw (← e) (last _)) }
 
-      pub lacks : {answer : Answer} → r ≡ Refused answer → told r ≡ constants_test rights words
-      lacks p = stops _ found p ∙ sym in_turn
+    pub lacks : {answer : Refusal} → some answer ≡ rights_test (get_or words i 0) rights
+        → some answer ≡ constants_test rights words
+    unfolding first
+    lacks e = sym (in_turn ∙ rw (← e) refl)

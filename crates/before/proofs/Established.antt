@@ -27,7 +27,7 @@ use Rattle.pools.specs.Good.{GoodTables, Within}
 use Rattle.pools.specs.Told.{fine}
 use Rattle.rules.specs.Bits.{Right, bit}
 use Rattle.rules.specs.Rights.{lacking}
-use Rattle.answer.specs.declared.Answer.TheVariants.{MissingCaps, Undecodable, BadIndex}
+use Rattle.answer.specs.declared.Refusal.TheVariants.{MissingCaps, Undecodable, BadIndex}
 use Rattle.rules.specs.There.{NameThere, ChainThere, SwitchThere}
 use Rattle.before.specs.Before.{Test, rights_test, constants_test, function_test, indices_test, width_test, code_test}
 use Rattle.before.specs.Before.{late_tests, before_stores, after_stores}

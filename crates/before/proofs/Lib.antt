@@ -4,6 +4,7 @@ pub mod Tests
 pub mod Constants
 pub mod Pass
 pub mod Held
+pub mod Parameters
 pub mod Order
 pub mod Established
 pub mod Once

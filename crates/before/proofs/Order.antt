@@ -4,7 +4,6 @@ use mathlib.Core.List.{List}
 use mathlib.Core.Option.{none, some}
 use mathlib.Core.Path.{◌≡◌, refl}
 use Prim.Native.Nat.{ℕ, ◌+◌, ◌/◌, ◌≤◌}
-use native.Mathlib.Omega.{arith}
 use borrow.Author.Tests.{eqb-true, ltb-false}
 use lib.Dec.{ltb, eqb}
 use Rattle.indices.specs.Checks.{tables, Sound}
@@ -16,7 +15,8 @@ use Rattle.pools.specs.Tables.{first_bad_table}
 use Rattle.pools.specs.declared.limits.Sizes.{Sizes}
 use Rattle.pools.proofs.LimitLaws.{kept_within}
 use Rattle.pools.proofs.TableLaws.{passed_good, chains_within, switches_within}
-use Rattle.answer.specs.declared.Answer.TheVariants.{TooLarge, BadTable, NoRoom}
+use Rattle.answer.specs.declared.Refusal.TheVariants.{TooLarge, BadTable, NoRoom}
+use Rattle.answer.proofs.Apart.{zero≢one}
 use Rattle.before.specs.Before.{limits_test, tables_test, lent_test, early_tests}
 use Rattle.before.proofs.Tests.{both, not_refused}
 
@@ -41,7 +41,7 @@ unfolding lent_test
 enough needed lent buffer e = go (ltb lent needed) refl e
   where
     go : (b : Bool) → ltb lent needed ≡ b → cond b (some (NoRoom needed buffer)) none ≡ none → needed ≤ lent
-    go true p q = let no : ◌≡◌ {A = ℕ} 0 1 = cc in absurd (omega arith)
+    go true p q = absurd (zero≢one (cc))
     go false p q = ltb-false lent needed p
 
 module _ (sizes : Sizes) (chains steps switches cases ranges : List ℕ) (marks heights : ℕ) where

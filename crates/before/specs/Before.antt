@@ -4,9 +4,10 @@
 -- holds the starts' bits after acceptance, zeros after refusal".
 use Rattle.std.specs.Prelude.{cond, List, [], ◌∷◌, ℕ, ◌+◌, ◌/◌, ltb, leb, eqb, length, replicate}
 use Rattle.std.proofs.Math.Option.{Option, none, some}
-use Rattle.answer.specs.declared.Answer.{Answer}
-use Rattle.answer.specs.declared.Answer.TheVariants.{TooLarge, BadTable, NoRoom, MissingCaps, Undecodable, BadIndex}
+use Rattle.answer.specs.declared.Refusal.{Refusal}
+use Rattle.answer.specs.declared.Refusal.TheVariants.{TooLarge, BadTable, NoRoom, MissingCaps, Undecodable, BadIndex}
 use Rattle.code.specs.Width.{width_at}
+use Rattle.indices.specs.Checks.{pool_sizes}
 use Rattle.indices.specs.Indices.{Tables, tables_of, size_of, refs, first_bad_ref}
 use Rattle.indices.specs.declared.Sizes as counted
 use Rattle.listing.specs.Starts.{in_turn, starts}
@@ -17,11 +18,11 @@ use Rattle.pools.specs.Told.{Told}
 use Rattle.pools.specs.declared.limits.Sizes.{Sizes}
 use Rattle.rules.specs.Bits.{Right, bit}
 use Rattle.rules.specs.Rights.{lacking}
-use Rattle.before.specs.Input.{Input, sizes_of, pool_sizes}
+use Rattle.before.specs.Input.{Input, sizes_of}
 
 -- a test passes, or refuses with an answer
 abbrev pub Test : Type 0
-Test = Option Answer
+Test = Option Refusal
 
 -- several tests in their order: the first that refuses
 unfoldable pub first : List Test → Test
@@ -29,7 +30,7 @@ first [] = none
 first (test ∷ tests) = elim test [ none ↦ first tests | some answer ↦ some answer ]
 
 -- what is told in numbers, as a test: kind 0 passes
-abbrev pub refused_by : Told → (Told → Answer) → Test
+abbrev pub refused_by : Told → (Told → Refusal) → Test
 refused_by told answer = cond (eqb told.kind 0) none (some (answer told))
 
 -- ---- the tests

@@ -4,91 +4,98 @@
 // chunks themselves are left to `verify`.
 #![tactic(auto)]
 
-ghost use Rattle.std.proofs.Math.Option.{some};
-ghost use Rattle.std.specs.Prelude.{◌≡◌, ◌<◌, ◌/◌, length, replicate};
-ghost use Rattle.indices.specs.Checks.{tables, Sound};
+ghost use Rattle.std.specs.Prelude.{◌≡◌, ◌<◌, ◌/◌, length};
+ghost use Rattle.code.specs.Width.{width_at};
+ghost use Rattle.indices.specs.Checks.{Sound, pool_sizes};
+ghost use Rattle.indices.specs.Indices.{tables_of};
+ghost use Rattle.pools.specs.Lent.{pools_of};
 ghost use Rattle.answer.specs.Answer.{told};
 ghost use Rattle.before.specs.Before.{limits_test, tables_test, lent_test, rights_test, constants_test, function_test};
-ghost use Rattle.before.specs.Before.{code_test, early_tests, late_tests, marks_of};
-ghost use Rattle.before.specs.Input.{pool_sizes};
-ghost use Rattle.before.specs.Parameters.{input};
-ghost use Rattle.before.specs.Calls.{Prepared, ForChunks};
-ghost use Rattle.before.specs.Pass.{Turned, turn_at};
+ghost use Rattle.before.specs.Before.{indices_test, code_test, before_stores, after_stores, marks_of};
+ghost use Rattle.before.specs.Input.{input_of, sizes_of};
+ghost use Rattle.before.specs.Calls.{Settled, Prepared, ForChunks};
+ghost use Rattle.before.specs.Pass.{Turned, turn_at, MarkedAll};
 
-use answer::{Answer, Outcome};
-use code::Width;
-use indices::Checked;
-use pools::limits::{Limits, Sizes};
-use pools::tables::Tables;
-use pools::{CASE_WORDS, CHAIN_WORDS, STEP_WORDS, SWITCH_WORDS};
-use rules::caps;
+use answer::{Buffer, Refusal};
+use code::NoWidth;
+use pools::Pools;
+use pools::limits::Sizes;
+use rules::{Script, caps};
 
-// What one instruction of the first pass comes to: it is passed, and this is the offset after it; the code has ended;
-// or a refusal.
+// The whole input but the chunks' spans: a script, how many functions it has, and how many chunks.
 #[derive(Clone, Copy)]
-pub enum Turn {
-    Next(usize),
-    Done,
-    Refused(Answer),
+pub struct Input<'a> {
+    pub script: Script<'a>,
+    pub functions: u32,
+    pub chunks: usize,
 }
 
-// The buffers by the numbers that kind 3 gives them.
-const MARKS: u64 = 1;
+impl<'a> Input<'a> {
+    // How many there are of everything that has a limit, tables by whole entries.
+    pub fn sizes(&self) -> Sizes
+        ensures { result ≡ sizes_of (input_of self.now) }
+    {
+        let script = &self.script;
+        Sizes::of(script.code.len(), &script.pools, self.chunks)
+    }
+}
 
-const HEIGHTS: u64 = 2;
+// A code that the first pass can read: with the pools that its instructions point into, of which the tables are good,
+// and how many entries each pool has.
+#[derive(Clone, Copy)]
+pub struct Readable<'a> {
+    pub code: &'a [u8],
+    pub pools: &'a Pools<'a>,
+    pub sizes: indices::Sizes,
+    pub ghost sound: { Sound sizes (tables_of (pools_of pools.now)) },
+}
 
 // Kind 1: is there more of anything than its limit allows?
-pub fn check_limits(sizes: Sizes) -> Outcome
+#[tactic(auto, unfolding(crate::specs::Before::limits_test, pools::specs::Answers::limits_told, answer::specs::Answer::told))]
+pub fn check_limits(sizes: Sizes) -> Result<(), Refusal>
     ensures { told result ≡ limits_test sizes }
 {
-    let limits = pools::limits::check_limits(sizes);
-    match limits {
-        Limits::Kept => Outcome::Passed,
-        Limits::Exceeded(limit) => Outcome::Refused(Answer::TooLarge(limit)),
-    }
+    pools::limits::check_limits(sizes).map_err(|limit| Refusal::TooLarge(u64::from(limit)))
 }
 
 // Kind 2: is a table ragged, or an entry of one bad?
-pub fn check_tables(
-    chains: &[u32],
-    steps: &[u32],
-    switches: &[u32],
-    cases: &[u32],
-    ranges: &[u32],
-) -> Outcome
-    ensures { told result ≡ tables_test chains.now steps.now switches.now
-        cases.now ranges.now }
+#[tactic(auto, unfolding(crate::specs::Before::tables_test, pools::specs::Answers::tables_told, answer::specs::Answer::told))]
+pub fn check_tables(pools: &Pools<'_>) -> Result<(), Refusal>
+    ensures { told result ≡ tables_test pools.now.chains.now pools.now.steps.now pools.now.switches.now
+        pools.now.cases.now pools.now.ranges.now }
 {
-    let tables = pools::tables::check_tables(chains, steps, switches, cases, ranges);
-    match tables {
-        Tables::Good => Outcome::Passed,
-        Tables::Bad(table, entry) => Outcome::Refused(Answer::BadTable { table, entry }),
-    }
+    pools::tables::check_tables(pools).map_err(|bad| Refusal::BadTable {
+        table: u64::from(bad.table),
+        entry: bad.entry as u64,
+    })
 }
 
-// Kind 3: are so many elements lent of the buffer of this number?
-pub fn check_room(needed: usize, lent: usize, buffer: u64) -> Outcome
+// Kind 3: are so many elements lent of the buffer of this number? It may be any number, and not only that of a
+// `Buffer`: the test is offered to every caller, and answers for them all.
+#[tactic(auto, unfolding(crate::specs::Before::lent_test, answer::specs::Answer::told))]
+pub fn check_room(needed: usize, lent: usize, buffer: u64) -> Result<(), Refusal>
     ensures { told result ≡ lent_test needed lent buffer }
 {
     if lent < needed {
-        Outcome::Refused(Answer::NoRoom {
+        Err(Refusal::NoRoom {
             needed: needed as u64,
             buffer,
         })
     } else {
-        Outcome::Passed
+        Ok(())
     }
 }
 
 // Kind 4, with the whole word: are rights granted? One constant is one such test.
-pub fn check_granted(needed: u32, rights: u32) -> Outcome
+#[tactic(auto, unfolding(crate::specs::Before::rights_test, answer::specs::Answer::told))]
+pub fn check_granted(needed: u32, rights: u32) -> Result<(), Refusal>
     ensures { told result ≡ rights_test needed rights }
 {
     let lacks = rules::rights::lacking(needed, rights);
     if lacks == 0 {
-        Outcome::Passed
+        Ok(())
     } else {
-        Outcome::Refused(Answer::MissingCaps {
+        Err(Refusal::MissingCaps {
             at: 0,
             missing: needed,
         })
@@ -96,233 +103,146 @@ pub fn check_granted(needed: u32, rights: u32) -> Outcome
 }
 
 // The constants upward.
-pub fn check_constants(constants: &[u32], rights: u32) -> Outcome
+#[tactic(auto, using(crate::proofs::Constants::none_yet, crate::proofs::Constants::all_granted, crate::proofs::Constants::one_more, crate::proofs::Constants::lacks), unfolding(answer::specs::Answer::told))]
+pub fn check_constants(constants: &[u32], rights: u32) -> Result<(), Refusal>
     ensures { told result ≡ constants_test rights constants.now }
 {
-    let mut constant = 0;
-    while constant < constants.len() {
-        let granted = check_granted(constants[constant], rights);
-        if let Outcome::Refused(_) = granted {
-            return granted;
-        }
-        constant += 1;
+    for constant in constants {
+        check_granted(*constant, rights)?;
     }
-    Outcome::Passed
+    Ok(())
 }
 
 // FUNCTION, where functions exist.
-pub fn check_function(functions: u32, rights: u32) -> Outcome
+#[tactic(auto, unfolding(crate::specs::Before::function_test, answer::specs::Answer::told))]
+pub fn check_function(functions: u32, rights: u32) -> Result<(), Refusal>
     ensures { told result ≡ function_test functions rights }
 {
     if functions == 0 {
-        Outcome::Passed
+        Ok(())
     } else {
         check_granted(caps::FUNCTION, rights)
     }
 }
 
-// One instruction of the first pass: its width, then its indices, and its mark where nothing is refused.
+// Kind 6: is an index of the instruction at an offset bad? For a caller who knows that its width is there.
+#[tactic(auto, unfolding(crate::specs::Before::indices_test, indices::specs::Checks::checked_by, answer::specs::Answer::told))]
+fn check_indices(source: &Readable<'_>, at: usize) -> Result<(), Refusal>
+    requires { 0 < width_at source.now.code.now at }
+    ensures { told result ≡ indices_test source.now.sizes (tables_of (pools_of source.now.pools.now))
+        source.now.code.now at }
+{
+    indices::check_indices(source.code, at, source.sizes, source.pools).map_err(
+        |bad| Refusal::BadIndex {
+            at: at as u64,
+            index: bad.index,
+            pool: u64::from(bad.pool),
+        },
+    )
+}
+
+// One instruction of the first pass: its width, then its indices, and its mark where nothing is refused. The offset
+// after it, or none where the code has ended.
+#[tactic(auto, using(crate::proofs::Pass::there, code::proofs::Widths::wide))]
 pub fn pass_instruction(
-    code: &[u8],
+    source: &Readable<'_>,
     at: usize,
-    sizes: indices::Sizes,
-    chains: &[u32],
-    steps: &[u32],
-    switches: &[u32],
-    cases: &[u32],
     marks: &mut [u64],
-) -> Turn
-    requires sound { Sound sizes (tables chains.now steps.now switches.now cases.now) }
-    requires code_in_bounds { length code.now / 64 < length marks.old }
+) -> Result<Option<usize>, Refusal>
+    requires { length source.now.code.now / 64 < length marks.old }
     ensures { Turned
-        (turn_at sizes (tables chains.now steps.now switches.now cases.now)
-        code.now at)
+        (turn_at source.now.sizes (tables_of (pools_of source.now.pools.now)) source.now.code.now at)
         at marks.old result marks.new }
 {
-    let width = code::width_at(code, at);
-    match width {
-        Width::Of(size) => {
-            let checked = indices::check_indices(code, at, sizes, chains, steps, switches, cases);
-            if let Checked::Bad { index, pool } = checked {
-                return Turn::Refused(Answer::BadIndex {
-                    at: at as u64,
-                    index,
-                    pool,
-                });
-            }
+    match code::width_at(source.code, at) {
+        Ok(width) => {
+            check_indices(source, at)?;
             marks::set_start(marks, at);
-            Turn::Next(at + size)
+            Ok(Some(at + width))
         }
-        Width::NoByte => Turn::Done,
-        Width::UnknownTag => Turn::Refused(Answer::Undecodable(at as u64)),
-        Width::CutOff => Turn::Refused(Answer::Undecodable(at as u64)),
+        Err(NoWidth::NoByte) => Ok(None),
+        Err(NoWidth::UnknownTag | NoWidth::CutOff) => Err(Refusal::Undecodable(at as u64)),
     }
 }
 
-// A refusal after the first store leaves no mark.
-fn refuse(answer: Answer, marks: &mut [u64]) -> Outcome
-    ensures { Prepared (some answer) (replicate (length marks.old) 0) result marks.new }
+// Every instruction in turn, each marked, up to the code's end or the first refusal.
+fn mark_all(source: &Readable<'_>, marks: &mut [u64]) -> Result<(), Refusal>
+    requires { length source.now.code.now / 64 < length marks.old }
+    ensures { MarkedAll source.now.code.now
+        (code_test source.now.sizes (tables_of (pools_of source.now.pools.now)) source.now.code.now 0)
+        marks.old result marks.new }
 {
-    marks::clear(marks);
-    Outcome::Refused(answer)
+    let mut at = 0;
+    while let Some(after) = pass_instruction(source, at, marks)? {
+        at = after;
+    }
+    Ok(())
+}
+
+// Hands on an outcome after the first store: a refusal leaves no mark.
+#[tactic(auto, unfolding(crate::specs::Calls::left_by))]
+fn settle(outcome: Result<(), Refusal>, marks: &mut [u64]) -> Result<(), Refusal>
+    ensures { Settled outcome marks.old result marks.new }
+{
+    if outcome.is_err() {
+        marks::clear(marks);
+    }
+    outcome
 }
 
 // Kinds 5 and 6, over the whole code, reachable or not: every instruction in turn, each marked. Words past those that
 // the code needs are cleared too, and a refusal clears all of them again.
-pub fn first_pass(
-    code: &[u8],
-    sizes: indices::Sizes,
-    chains: &[u32],
-    steps: &[u32],
-    switches: &[u32],
-    cases: &[u32],
-    marks: &mut [u64],
-) -> Outcome
-    requires sound { Sound sizes (tables chains.now steps.now switches.now cases.now) }
-    requires code_in_bounds { length code.now / 64 < length marks.old }
+pub fn first_pass(source: &Readable<'_>, marks: &mut [u64]) -> Result<(), Refusal>
+    requires { length source.now.code.now / 64 < length marks.old }
     ensures { Prepared
-        (code_test sizes (tables chains.now steps.now switches.now cases.now)
-        code.now 0)
-        (marks_of code.now (told result) (length marks.old))
+        (code_test source.now.sizes (tables_of (pools_of source.now.pools.now)) source.now.code.now 0)
+        (marks_of source.now.code.now (told result) (length marks.old))
         result marks.new }
 {
     marks::clear(marks);
-    let mut at = 0;
-    let refusal = 'pass: loop {
-        let turn = pass_instruction(code, at, sizes, chains, steps, switches, cases, marks);
-        match turn {
-            Turn::Next(after) => {
-                at = after;
-            }
-            Turn::Done => {
-                return Outcome::Passed;
-            }
-            Turn::Refused(answer) => {
-                break 'pass answer;
-            }
-        }
-    };
-    refuse(refusal, marks)
+    let outcome = mark_all(source, marks);
+    settle(outcome, marks)
 }
 
 // The tests before any store: limits, tables, and room, where so many words of marks and elements of heights are lent.
-fn early_tests(
-    sizes: Sizes,
-    chains: &[u32],
-    steps: &[u32],
-    switches: &[u32],
-    cases: &[u32],
-    ranges: &[u32],
-    marks: usize,
-    heights: usize,
-) -> Outcome
-    ensures { told result ≡ early_tests sizes chains.now steps.now switches.now
-        cases.now ranges.now marks heights }
+#[tactic(auto, unfolding(crate::specs::Before::early_tests, crate::specs::Before::first, answer::specs::Answer::told))]
+fn early_tests(input: &Input<'_>, marks: usize, heights: usize) -> Result<(), Refusal>
+    ensures { told result ≡ before_stores (input_of input.now) marks heights }
 {
-    let kept = check_limits(sizes);
-    if let Outcome::Refused(_) = kept {
-        return kept;
-    }
-    let good = check_tables(chains, steps, switches, cases, ranges);
-    if let Outcome::Refused(_) = good {
-        return good;
-    }
-    let lent = check_room(sizes.code / 64 + 1, marks, MARKS);
-    if let Outcome::Refused(_) = lent {
-        return lent;
-    }
-    check_room(sizes.chunks, heights, HEIGHTS)
+    let sizes = input.sizes();
+    check_limits(sizes)?;
+    check_tables(&input.script.pools)?;
+    check_room(sizes.code / 64 + 1, marks, Buffer::Marks as u64)?;
+    check_room(sizes.chunks, heights, Buffer::Heights as u64)
 }
 
 // The tests after the first store: constants, the first pass, FUNCTION. A refusal by any of them leaves no mark. For a
 // caller who knows that the tables are good and the marks enough.
-fn late_tests(
-    rights: u32,
-    functions: u32,
-    constants: &[u32],
-    sizes: Sizes,
-    chains: &[u32],
-    steps: &[u32],
-    switches: &[u32],
-    cases: &[u32],
-    code: &[u8],
-    marks: &mut [u64],
-) -> Outcome
-    requires sound { Sound (pool_sizes sizes) (tables chains.now steps.now switches.now cases.now) }
-    requires code_in_bounds { length code.now / 64 < length marks.old }
-    ensures { Prepared
-        (late_tests rights functions constants.now (pool_sizes sizes)
-        (tables chains.now steps.now switches.now cases.now)
-        code.now)
-        (marks_of code.now (told result) (length marks.old))
+fn late_tests(input: &Input<'_>, marks: &mut [u64]) -> Result<(), Refusal>
+    requires sound { Sound (pool_sizes (sizes_of (input_of input.now))) (tables_of (pools_of input.now.script.pools)) }
+    requires code_in_bounds { length input.now.script.code.now / 64 < length marks.old }
+    ensures { Prepared (after_stores (input_of input.now))
+        (marks_of input.now.script.code.now (told result) (length marks.old))
         result marks.new }
 {
-    let granted = check_constants(constants, rights);
-    if let Outcome::Refused(answer) = granted {
-        return refuse(answer, marks);
-    }
-    let counts = indices::Sizes {
-        constants: sizes.constants,
-        names: sizes.names,
-        tokens: sizes.tokens,
-        op_assignments: sizes.op_assignments,
-        chains: sizes.chains,
-        switches: sizes.switches,
+    let script = &input.script;
+    settle(
+        check_constants(script.pools.constants, script.rights),
+        marks,
+    )?;
+    let source = Readable {
+        code: script.code,
+        pools: &script.pools,
+        sizes: indices::Sizes::from(input.sizes()),
     };
-    let passed = first_pass(code, counts, chains, steps, switches, cases, marks);
-    if let Outcome::Refused(_) = passed {
-        return passed;
-    }
-    let function = check_function(functions, rights);
-    if let Outcome::Refused(answer) = function {
-        return refuse(answer, marks);
-    }
-    Outcome::Passed
+    first_pass(&source, marks)?;
+    settle(check_function(input.functions, script.rights), marks)
 }
 
 // Everything before the chunks, of any input. Kinds 1, 2 and 3 leave marks as they were.
-pub fn before_chunks(
-    rights: u32,
-    functions: u32,
-    constants: &[u32],
-    names: &[u8],
-    tokens: usize,
-    op_assignments: usize,
-    chains: &[u32],
-    steps: &[u32],
-    switches: &[u32],
-    cases: &[u32],
-    ranges: &[u32],
-    code: &[u8],
-    chunks: usize,
-    marks: &mut [u64],
-    heights: usize,
-) -> Outcome
-    ensures { ForChunks
-        (input rights functions constants names tokens op_assignments chains steps switches cases ranges code chunks)
-        heights marks.old result marks.new }
+pub fn before_chunks(input: &Input<'_>, marks: &mut [u64], heights: usize) -> Result<(), Refusal>
+    ensures { ForChunks (input_of input.now) heights marks.old result marks.new }
 {
-    let sizes = Sizes {
-        code: code.len(),
-        constants: constants.len(),
-        names: names.len(),
-        tokens,
-        op_assignments,
-        steps: steps.len() / STEP_WORDS,
-        cases: cases.len() / CASE_WORDS,
-        ranges: ranges.len(),
-        chains: chains.len() / CHAIN_WORDS,
-        switches: switches.len() / SWITCH_WORDS,
-        chunks,
-    };
-    let words = marks.len();
-    let early = early_tests(
-        sizes, chains, steps, switches, cases, ranges, words, heights,
-    );
-    if let Outcome::Refused(_) = early {
-        return early;
-    }
-    late_tests(
-        rights, functions, constants, sizes, chains, steps, switches, cases, code, marks,
-    )
+    early_tests(input, marks.len(), heights)?;
+    late_tests(input, marks)
 }

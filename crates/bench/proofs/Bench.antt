@@ -15,7 +15,7 @@ use Rattle.pools.specs.Pools.{entries}
 use Rattle.pools.specs.Sizes.{max_code, limits, tells, first_over}
 use Rattle.pools.specs.Tables as tables
 use Rattle.pools.specs.Told as told
-use Rattle.answer.specs.Answer.{numbered, unless}
+use Rattle.answer.specs.Answer.{numbered, refused, unless}
 use Rattle.demand.specs.Chunk.{all_targets, needs_test, rule, judge, span_test, open_test, height_test, measured, walked}
 use Rattle.demand.specs.Chunk.{judge_chunk}
 use Rattle.demand.specs.Chunk as chunk
@@ -31,7 +31,7 @@ use Rattle.verify.specs.Call.{verdict_on, marks_on, after_chunks, after_late_tes
 use Rattle.judging.specs.Judging.{judge_all}
 
 computed : map answered bench ≡ map expected bench
-unfolding first limits_test tables_test lent_test rights_test constants_test function_test width_test indices_test code_test early_tests late_tests marks_of word answered among layout count_from indices_from little width_of width_by reference.first_bad_ref reference.size_of reference.in_code reference.in_record starts_by starts_before in_turn marked marked_all total entries max_code limits tells first_over tables.ragged tables.whole_table tables.first_bad_table told.first_told told.first_from numbered unless span_test chunk.room_test open_test height_test measured walked judge_chunk agree falls plain arms_of targets_of after_of jumped_of next degree T E effect operands_of needs pops pushes sum_of fall_to iterators_needed handlers_needed required lacking of_name of_chain all_targets needs_test rule judge push first_bad_jump seen turn run lookup verdict_on marks_on after_chunks after_late_tests after_early_tests judge_all ones
+unfolding first limits_test tables_test lent_test rights_test constants_test function_test width_test indices_test code_test early_tests late_tests marks_of word answered among layout count_from indices_from little width_of width_by reference.first_bad_ref reference.size_of reference.in_code reference.in_record starts_by starts_before in_turn marked marked_all total entries max_code limits tells first_over tables.ragged tables.whole_table tables.first_bad_table told.first_told told.first_from numbered refused unless span_test chunk.room_test open_test height_test measured walked judge_chunk agree falls plain arms_of targets_of after_of jumped_of next degree T E effect operands_of needs pops pushes sum_of fall_to iterators_needed handlers_needed required lacking of_name of_chain all_targets needs_test rule judge push first_bad_jump seen turn run lookup verdict_on marks_on after_chunks after_late_tests after_early_tests judge_all ones
 computed = refl
 
 -- lists that are equal under two functions have the same of both at each element

@@ -25,8 +25,6 @@ fn ask(
         (spans_of entries.now ends.now declared.now))
         (spans_of entries.now ends.now declared.now) lent).verdict }
 {
-    let names: [u8; 0] = [];
-    let words: [u32; 0] = [];
     let mut marks = [5u64; 2];
     let mut heights = [77u16; 2];
     let mut records = [6u32; 16];
@@ -35,14 +33,14 @@ fn ask(
         rights,
         0,
         constants,
-        &names,
+        &[],
         0,
         0,
-        &words,
-        &words,
-        &words,
-        &words,
-        &words,
+        &[],
+        &[],
+        &[],
+        &[],
+        &[],
         code,
         entries,
         ends,
@@ -56,8 +54,7 @@ fn ask(
 
 // No rights, no constants, and one chunk.
 fn ask_part(code: &[u8], entry: u32, end: u32, declared: u16) -> Verdict {
-    let none: [u32; 0] = [];
-    ask(0, &none, code, &[entry], &[end], &[declared])
+    ask(0, &[], code, &[entry], &[end], &[declared])
 }
 
 // P11: its entry lies inside an instruction.
@@ -68,8 +65,7 @@ fn ask_misaligned() -> Verdict {
 
 // P12: an instruction's rights, and a constant's.
 fn ask_instruction() -> Verdict {
-    let none: [u32; 0] = [];
-    ask(32, &none, b"\x01\x16\x00\x07", &[0], &[4], &[9])
+    ask(32, &[], b"\x01\x16\x00\x07", &[0], &[4], &[9])
 }
 
 fn ask_constant() -> Verdict {
@@ -78,10 +74,9 @@ fn ask_constant() -> Verdict {
 
 // Two chunks of one code.
 fn ask_two(entry: u32, end: u32) -> Verdict {
-    let none: [u32; 0] = [];
     ask(
         0,
-        &none,
+        &[],
         b"\x01\x07\x01\x01\x04\x07",
         &[0, entry],
         &[2, end],
@@ -90,20 +85,18 @@ fn ask_two(entry: u32, end: u32) -> Verdict {
 }
 
 // Here and below the only error is that of a write that failed.
-fn tell_number(rt: &impl Print, number: u64) -> io::Result<()> {
-    print!(rt; "{number} ")
-}
-
 fn tell(rt: &impl Print, verdict: Verdict) -> io::Result<()> {
-    tell_number(rt, verdict.kind as u64)?;
-    tell_number(rt, verdict.chunk as u64)?;
-    tell_number(rt, verdict.at)?;
-    tell_number(rt, verdict.p)?;
-    tell_number(rt, verdict.q)?;
-    tell_number(rt, verdict.instructions)?;
-    tell_number(rt, verdict.reached)?;
-    let taken = verdict.taken;
-    println!(rt; "{taken}")
+    let Verdict {
+        kind,
+        chunk,
+        at,
+        p,
+        q,
+        instructions,
+        reached,
+        taken,
+    } = verdict;
+    println!(rt; "{kind} {chunk} {at} {p} {q} {instructions} {reached} {taken}")
 }
 
 fn tell_part(rt: &impl Print, code: &[u8], entry: u32, end: u32, declared: u16) -> io::Result<()> {

@@ -3,8 +3,8 @@
 // What a tag does is left to `rules`; which offsets start an instruction, to `listing`.
 #![tactic(auto)]
 
-ghost use Rattle.std.specs.Prelude.{◌≡◌, ◌+◌, ◌≤◌, length, get_or};
-ghost use Rattle.code.specs.Answers.{number_at, numbered16, numbered32, width_told, found_at};
+ghost use Rattle.std.specs.Prelude.{◌≡◌, ℕ, ◌+◌, ◌≤◌, length, get_or, option_map};
+ghost use Rattle.code.specs.Answers.{number_at, found_at};
 ghost use Rattle.code.specs.Layout.{little};
 ghost use Rattle.code.specs.Rows.{width_rows};
 ghost use Rattle.code.specs.Width.{width_of};
@@ -26,94 +26,98 @@ fn width_row(row: u8) -> u64
     }
 }
 
-// What stands at an offset: an instruction of so many bytes, or why there is none.
-#[derive(Clone, Copy)]
-pub enum Width {
-    Of(usize),
+// Why no instruction stands at an offset: the code has no byte there, the byte is no tag, or the code ends before the
+// operands do.
+#[derive(Clone, Copy, PartialEq, Eq)]
+pub enum NoWidth {
     NoByte,
     UnknownTag,
     CutOff,
 }
 
-// A number of two bytes, where both are there.
-#[derive(Clone, Copy)]
-pub enum Number16 {
-    Is(u16),
-    CutOff,
-}
-
-// A number of four bytes, where all are there.
-#[derive(Clone, Copy)]
-pub enum Number32 {
-    Is(u32),
-    CutOff,
-}
-
 // The width of a tag, 0 for a byte that is none.
+#[tactic(auto, using(crate::proofs::Entries::rule, crate::proofs::Entries::row_entry))]
 pub fn width_of(tag: u8) -> usize
     ensures { result ≡ width_of tag }
 {
     ((width_row(tag / 16) >> (tag % 16 * 4)) % 16) as usize
 }
 
-// What stands at an offset. Where the code ends before the operands do, no instruction stands there.
-pub fn width_at(code: &[u8], at: usize) -> Width
-    ensures { width_told result ≡ found_at code.now at }
+// The width of the instruction at an offset.
+#[tactic(auto, unfolding(crate::specs::Answers::found_by))]
+pub fn width_at(code: &[u8], at: usize) -> Result<usize, NoWidth>
+    ensures { result ≡ found_at code.now at }
 {
     if code.len() <= at {
-        return Width::NoByte;
+        return Err(NoWidth::NoByte);
     }
     let size = width_of(code[at]);
     if size == 0 {
-        return Width::UnknownTag;
+        return Err(NoWidth::UnknownTag);
     }
     if size <= code.len() - at {
-        Width::Of(size)
+        Ok(size)
     } else {
-        Width::CutOff
+        Err(NoWidth::CutOff)
     }
 }
 
-// The number of two bytes at an offset, for a caller who knows that they are there.
-pub fn read_u16(code: &[u8], at: usize) -> u16
-    requires { at + 2 ≤ length code.now }
-    ensures { result ≡ little 2 code.now at }
-{
-    (code[at] as u16) + (code[at + 1] as u16) * 256
+// A number among the operands: so many bytes, the lowest first.
+pub trait Number: Copy {
+    const SIZE: usize;
+
+    ghost SIZE: { ℕ };
+
+    ghost value: { Self → ℕ };
+
+    // The number at an offset, for a caller who knows that its bytes are there.
+    fn read(code: &[u8], at: usize) -> Self
+        requires { at + SIZE ≤ length code.now }
+        ensures { value result ≡ little SIZE code.now at };
+
+    // So the bytes fix the number.
+    ghost same: { (a b : Self) → value a ≡ value b → a ≡ b };
 }
 
-// The number of four bytes at an offset, for a caller who knows that they are there.
-pub fn read_u32(code: &[u8], at: usize) -> u32
-    requires { at + 4 ≤ length code.now }
-    ensures { result ≡ little 4 code.now at }
-{
-    (read_u16(code, at) as u32) + (read_u16(code, at + 2) as u32) * 65536
-}
+impl Number for u16 {
+    const SIZE: usize = 2;
 
-// The number of two bytes at any offset.
-pub fn u16_at(code: &[u8], at: usize) -> Number16
-    ensures { numbered16 result ≡ number_at 2 code.now at }
-{
-    if code.len() < 2 {
-        return Number16::CutOff;
+    ghost SIZE = { 2 };
+
+    ghost value = { λ n. n };
+
+    ghost same = { λ a b e. e };
+
+    #[tactic(auto, unfolding(crate::specs::Layout::little))]
+    fn read(code: &[u8], at: usize) -> u16 {
+        u16::from_le_bytes([code[at], code[at + 1]])
     }
-    if at <= code.len() - 2 {
-        Number16::Is(read_u16(code, at))
+}
+
+impl Number for u32 {
+    const SIZE: usize = 4;
+
+    ghost SIZE = { 4 };
+
+    ghost value = { λ n. n };
+
+    ghost same = { λ a b e. e };
+
+    #[tactic(auto, unfolding(crate::specs::Layout::little))]
+    fn read(code: &[u8], at: usize) -> u32 {
+        u32::from_le_bytes([code[at], code[at + 1], code[at + 2], code[at + 3]])
+    }
+}
+
+// The number at any offset, where all its bytes are there.
+#[tactic(auto, using(crate::proofs::Little::number_there, crate::proofs::Little::number_cut))]
+pub fn number_at<N: Number>(code: &[u8], at: usize) -> Option<N>
+    ensures { option_map N.value result ≡ number_at N.SIZE code.now at }
+{
+    let last = code.len().checked_sub(N::SIZE)?;
+    if at <= last {
+        Some(N::read(code, at))
     } else {
-        Number16::CutOff
-    }
-}
-
-// The number of four bytes at any offset.
-pub fn u32_at(code: &[u8], at: usize) -> Number32
-    ensures { numbered32 result ≡ number_at 4 code.now at }
-{
-    if code.len() < 4 {
-        return Number32::CutOff;
-    }
-    if at <= code.len() - 4 {
-        Number32::Is(read_u32(code, at))
-    } else {
-        Number32::CutOff
+        None
     }
 }

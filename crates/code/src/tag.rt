@@ -1,4 +1,5 @@
 // The tags: the first byte of each instruction, in document 01's order. Each group has one width.
+// They are bytes and no enum: what is matched is a byte of the code, which may be any, and it is looked up just once.
 
 // Width 1.
 pub const UNIT: u8 = 0x01;

@@ -14,8 +14,8 @@ use lib.ListN.{length}
 use Rattle.code.specs.Width.{width_of}
 use Rattle.listing.proofs.Before.{before_few}
 use Rattle.answer.specs.Answer.{unless}
-use Rattle.answer.specs.declared.Answer.{Answer}
-use Rattle.answer.specs.declared.Answer.TheVariants.{StackExceedsDeclared}
+use Rattle.answer.specs.declared.Refusal.{Refusal}
+use Rattle.answer.specs.declared.Refusal.TheVariants.{StackExceedsDeclared}
 use Rattle.answer.specs.declared.Depths.{Depths}
 use Rattle.demand.specs.Chunk.{rule, judge, machine, span_test, room_test, open_test, Judged, passes, fails}
 use Rattle.demand.specs.Chunk.{height_test, measured, walked, judge_chunk}
@@ -39,8 +39,8 @@ use Rattle.demand.proofs.Ties.{agrees, path_of, reached_of, written_reached, wri
 
 -- ---- a test of a chunk: where it refuses, the chunk fails by it, and else what comes after it decides
 
-module _ {t : Option Answer} (rest : Judged) where
-  pub fails_by : {a : Answer} → t ≡ some a → unless fails t rest ≡ fails a
+module _ {t : Option Refusal} (rest : Judged) where
+  pub fails_by : {a : Refusal} → t ≡ some a → unless fails t rest ≡ fails a
   unfolding unless
   fails_by e = rw e
 
@@ -49,7 +49,7 @@ module _ {t : Option Answer} (rest : Judged) where
   passes_to e = rw e
 
 module _ (S : Script) (span : Span) (records work : ℕ) where
-  pub judged_shut : {a : Answer} → open_test S span records work ≡ some a → judge_chunk S span records work ≡ fails a
+  pub judged_shut : {a : Refusal} → open_test S span records work ≡ some a → judge_chunk S span records work ≡ fails a
   unfolding judge_chunk
   judged_shut e = fails_by (walked S span) e
 
@@ -95,14 +95,14 @@ module _ (S : Script) (span : Span) {records work : ℕ} (B : BeforeWalk S span 
         → walked S span
         ≡ unless fails (height_test b.height span.declared) (passes b.height b.reached b.taken)
         → Told
-    refuses : (a : Answer) {spent : ℕ} → walk (machine S span) log (1 + E S span) [] ≡ refused a spent
+    refuses : (a : Refusal) {spent : ℕ} → walk (machine S span) log (1 + E S span) [] ≡ refused a spent
         → walked S span ≡ fails a → Told
 
   pub walk_told : Told
   unfolding walked measured
   walk_told = go (walk (machine S span) log (1 + E S span) []) refl
     where
-      go : (o : Run Answer Log) → walk (machine S span) log (1 + E S span) [] ≡ o → Told
+      go : (o : Run Refusal Log) → walk (machine S span) log (1 + E S span) [] ≡ o → Told
       go (accepted b) q = accepts b q (rw q)
       go (refused a u) q = refuses a q (rw q)
       go (unfinished w b) q = absurd (walk_ends q)
@@ -222,7 +222,7 @@ module _ (S : Script) (span : Span) {records work : ℕ} (B : BeforeWalk S span 
 
   -- Theorem 7. A refusal is real: an instruction on a path from the entry fails that very test with these values; or, for 14,
   -- the largest depth on the paths is above the declared height.
-  pub refused_really : {a : Answer} → walked S span ≡ fails a → Real S span a ⊎ Exceeds S span a
+  pub refused_really : {a : Refusal} → walked S span ≡ fails a → Real S span a ⊎ Exceeds S span a
   unfolding units
   refused_really {a} e = go walk_told
     where

@@ -15,8 +15,8 @@ use Rattle.code.proofs.Among.{among_member, member_among}
 use Rattle.listing.specs.Starts.{starts}
 use Rattle.listing.proofs.Starts.{listed_start, start_listed, start_wide, start_apart, start_next}
 use Rattle.listing.proofs.Before.{start_before}
-use Rattle.answer.specs.declared.Answer.{Answer}
-use Rattle.answer.specs.declared.Answer.TheVariants.{JumpOutOfRange, JumpIntoAnInstruction}
+use Rattle.answer.specs.declared.Refusal.{Refusal}
+use Rattle.answer.specs.declared.Refusal.TheVariants.{JumpOutOfRange, JumpIntoAnInstruction}
 use Rattle.demand.specs.BeforeWalk.{BeforeWalk}
 use Rattle.rules.specs.Edges.{next}
 use Rattle.demand.specs.Span.{Span, chunk_starts}
@@ -47,7 +47,7 @@ module _ (S : Script) (span : Span) where
   judged p t = (to (ltb t span.entry) refl (leb span.end t) refl (among t (starts S.code)) refl, back)
     where
       to : (a : Bool) → ltb t span.entry ≡ a → (b : Bool) → leb span.end t ≡ b → (d : Bool) → among t (starts S.code) ≡ d
-          → ◌≡◌ {A = Option Answer} (cond (a || b) (some (JumpOutOfRange p t)) (cond d none (some (JumpIntoAnInstruction p t)))) none
+          → ◌≡◌ {A = Option Refusal} (cond (a || b) (some (JumpOutOfRange p t)) (cond d none (some (JumpIntoAnInstruction p t)))) none
           → InChunk (machine S span) t
       to true qa b qb d qd e = absurd (zero≢one (cc))
       to false qa true qb d qd e = absurd (zero≢one (cc))

@@ -14,7 +14,7 @@ use Rattle.code.specs.Tags.{byte, bytes, ITER_INIT, ITER_DROP, POP_HANDLER, iter
 use Rattle.code.specs.Width.{width_of, width_at}
 use Rattle.code.proofs.Among.{member_among}
 use Rattle.listing.proofs.Starts.{start_wide}
-use Rattle.answer.specs.declared.Answer.{Answer}
+use Rattle.answer.specs.declared.Refusal.{Refusal}
 use Rattle.answer.specs.declared.Depths.{Depths}
 use Rattle.demand.specs.BeforeWalk.{BeforeWalk}
 use Rattle.answer.specs.Depths.{Item}
@@ -117,7 +117,7 @@ module _ (S : Script) (span : Span) {records work : ℕ} (B : BeforeWalk S span 
   ruled_fairly : Given (Fair (machine S span) (degree S) (record { place = p; depths = d })) (rule S span p d)
   ruled_fairly = go (rule S span p d) (says S span p d)
     where
-      go : (o : Ruling Answer) → Says S span p d o → Given (Fair (machine S span) (degree S) (record { place = p; depths = d })) o
+      go : (o : Ruling Refusal) → Says S span p d o → Given (Fair (machine S span) (degree S) (record { place = p; depths = d })) o
       go o (no_rights l e) = rw e tt
       go o (no_operands r l e) = rw e tt
       go o (no_iterator r n l e) = rw e tt

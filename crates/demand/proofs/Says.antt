@@ -14,9 +14,9 @@ use Rattle.code.specs.Layout.{among}
 use Rattle.code.specs.Tags.{bytes, RETURN, THROW, JUMP, SWITCH}
 use Rattle.code.proofs.Among.{among_member, member_among}
 use Rattle.answer.specs.Answer.{unless}
-use Rattle.answer.specs.declared.Answer.{Answer}
-use Rattle.answer.specs.declared.Answer.TheVariants.{MissingCaps, Underflow, FallsOffTheEnd, IteratorUnderflow}
-use Rattle.answer.specs.declared.Answer.TheVariants.{HandlerUnderflow}
+use Rattle.answer.specs.declared.Refusal.{Refusal}
+use Rattle.answer.specs.declared.Refusal.TheVariants.{MissingCaps, Underflow, FallsOffTheEnd, IteratorUnderflow}
+use Rattle.answer.specs.declared.Refusal.TheVariants.{HandlerUnderflow}
 use Rattle.answer.specs.declared.Depths.{Depths}
 use Rattle.answer.specs.Depths.{Item}
 use Rattle.rules.specs.Edges.{jumping, falls, plain, targets, after, jumped, next, edges}
@@ -40,7 +40,7 @@ module _ (S : Script) (span : Span) (p : ℕ) (d : Depths) where
   abbrev pub jumps : List Item
   jumps = map jump_to (targets S p)
 
-  pub data Says (o : Ruling Answer) : Type 0 where
+  pub data Says (o : Ruling Refusal) : Type 0 where
     no_rights : 0 < lacks S p → o ≡ denies (MissingCaps p (lacks S p)) → Says o
     no_operands : lacks S p ≡ 0 → d.operands < operands_needed S p → o ≡ denies (Underflow p (operands_needed S p) d.operands) → Says o
     no_iterator : lacks S p ≡ 0 → operands_needed S p ≤ d.operands → d.iterators < iterators_needed (tag_of S p) → o ≡ denies (IteratorUnderflow p) → Says o
@@ -53,7 +53,7 @@ module _ (S : Script) (span : Span) (p : ℕ) (d : Depths) where
   unfolding rule needs_test unless
   says = by_rights (ltb 0 (lacks S p)) refl
     where
-      ruling : Bool → Bool → Bool → Bool → Bool → Ruling Answer
+      ruling : Bool → Bool → Bool → Bool → Bool → Ruling Refusal
       ruling a b e f g =
           unless denies
           (cond a (some (MissingCaps p (lacks S p)))

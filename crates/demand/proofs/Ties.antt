@@ -13,9 +13,9 @@ use Rattle.code.specs.Width.{width_of}
 use Rattle.code.proofs.Among.{member_among}
 use Rattle.listing.specs.Starts.{starts}
 use Rattle.listing.proofs.Starts.{start_listed}
-use Rattle.answer.specs.declared.Answer.{Answer}
-use Rattle.answer.specs.declared.Answer.TheVariants.{MissingCaps, JumpOutOfRange, JumpIntoAnInstruction, Underflow}
-use Rattle.answer.specs.declared.Answer.TheVariants.{FallsOffTheEnd, IteratorUnderflow, HandlerUnderflow}
+use Rattle.answer.specs.declared.Refusal.{Refusal}
+use Rattle.answer.specs.declared.Refusal.TheVariants.{MissingCaps, JumpOutOfRange, JumpIntoAnInstruction, Underflow}
+use Rattle.answer.specs.declared.Refusal.TheVariants.{FallsOffTheEnd, IteratorUnderflow, HandlerUnderflow}
 use Rattle.answer.specs.declared.Depths.{Depths}
 use Rattle.answer.specs.Depths.{Item}
 use Rattle.rules.specs.Edges.{after, edges, falls, plain, targets, next}
@@ -100,7 +100,7 @@ module _ (S : Script) (span : Span) where
   path_of (begins e) = rw e writing.enters
   path_of (follows {it} {e} r c m) = go (path_of r) (rule S span it.place it.depths) refl m
     where
-      go : writing.Path S span it → (o : Ruling Answer) → rule S span it.place it.depths ≡ o → e ∈ leads (next S it.place) o
+      go : writing.Path S span it → (o : Ruling Refusal) → rule S span it.place it.depths ≡ o → e ∈ leads (next S it.place) o
           → writing.Path S span e
       go back (denies x) q k = absurd (∉-nil k)
       go back (gives post fall jumps) q k =
@@ -163,12 +163,12 @@ module _ (S : Script) (span : Span) where
   -- ---- refusals
 
   -- a jump that a test refuses leaves the chunk, or lands within an instruction
-  bad_jump : {p t : ℕ} {d : Depths} {r : Answer} → Met S span p d → Able S p d → t ∈ targets S p → judge S span p t ≡ some r → Real S span r
+  bad_jump : {p t : ℕ} {d : Depths} {r : Refusal} → Met S span p d → Able S p d → t ∈ targets S p → judge S span p t ≡ some r → Real S span r
   unfolding judge
   bad_jump {p} {t} {d} {r} met able m e = go (ltb t span.entry) refl (leb span.end t) refl (among t (starts S.code)) refl e
     where
       go : (a : Bool) → ltb t span.entry ≡ a → (b : Bool) → leb span.end t ≡ b → (c : Bool) → among t (starts S.code) ≡ c
-          → ◌≡◌ {A = Option Answer} (cond (a || b) (some (JumpOutOfRange p t)) (cond c none (some (JumpIntoAnInstruction p t)))) (some r)
+          → ◌≡◌ {A = Option Refusal} (cond (a || b) (some (JumpOutOfRange p t)) (cond c none (some (JumpIntoAnInstruction p t)))) (some r)
           → Real S span r
       go true qa b qb c qc e = let same : r ≡ JumpOutOfRange p t = cc in rw same (leaves met able m (inl (ltb-true t span.entry qa)))
       go false qa true qb c qc e = let same : r ≡ JumpOutOfRange p t = cc in rw same (leaves met able m (inr (leb-true span.end t qb)))
@@ -179,7 +179,7 @@ module _ (S : Script) (span : Span) where
           (λ s. zero≢one (cc (member_among t (starts S.code) (start_listed width_of S.code t s)))))
 
   -- an instruction that the rule denies fails the test that the denial names
-  denied : {p : ℕ} {d : Depths} {r : Answer} → Met S span p d → rule S span p d ≡ denies r → Real S span r
+  denied : {p : ℕ} {d : Depths} {r : Refusal} → Met S span p d → rule S span p d ≡ denies r → Real S span r
   denied {p} {d} {r} met q = go (says S span p d)
     where
       go : Says S span p d (rule S span p d) → Real S span r
@@ -193,7 +193,7 @@ module _ (S : Script) (span : Span) where
           rw same (writing.runs_off (writing.follows met.path met.inside able edge) l)
       go (goes able n e) = absurd (zero≢one (cc))
 
-  pub real_of : {r : Answer} → machine-refusals.Real (machine S span) r → Real S span r
+  pub real_of : {r : Refusal} → machine-refusals.Real (machine S span) r → Real S span r
   real_of (machine-refusals.runs_off q h) = writing.runs_off (path_of q) h
   real_of (machine-refusals.disagree c q s n) =
       disagrees (record { path = path_of q; inside = inside S span c }) (record { path = path_of s; inside = inside S span c }) n

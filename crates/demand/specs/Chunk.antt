@@ -6,7 +6,7 @@
 use Rattle.std.specs.Prelude.{◌&&◌, ◌||◌, cond, not, List, [], ◌∷◌, ◌++◌, map, ℕ, ◌+◌, ◌*◌, ltb, leb, eqb, length}
 use Rattle.std.proofs.Math.Option.{Option, none, some}
 use Rattle.answer.specs.Answer.{unless}
-use Rattle.answer.specs.declared.Answer.{Answer}
+use Rattle.answer.specs.declared.Refusal.{Refusal}
 use Rattle.answer.specs.declared.Depths.{Depths}
 use Rattle.code.specs.Layout.{among}
 use Rattle.listing.specs.Starts.{starts}
@@ -25,29 +25,29 @@ all_targets S (p ∷ ps) = targets S p ++ all_targets S ps
 
 -- the tests of what an instruction needs: kind 4, where so much lacks; then 12, 15 and 16, of a tag that needs so
 -- many operands
-unfoldable pub needs_test : (lacks tag needs at : ℕ) → Depths → Option Answer
+unfoldable pub needs_test : (lacks tag needs at : ℕ) → Depths → Option Refusal
 needs_test lacks tag needs at d =
-    cond (ltb 0 lacks) (some (Answer.MissingCaps at lacks))
-    (cond (ltb d.operands needs) (some (Answer.Underflow at needs d.operands))
-    (cond (ltb d.iterators (iterators_needed tag)) (some (Answer.IteratorUnderflow at))
-    (cond (ltb d.handlers (handlers_needed tag)) (some (Answer.HandlerUnderflow at)) none)))
+    cond (ltb 0 lacks) (some (Refusal.MissingCaps at lacks))
+    (cond (ltb d.operands needs) (some (Refusal.Underflow at needs d.operands))
+    (cond (ltb d.iterators (iterators_needed tag)) (some (Refusal.IteratorUnderflow at))
+    (cond (ltb d.handlers (handlers_needed tag)) (some (Refusal.HandlerUnderflow at)) none)))
 
 module _ (S : Script) (span : Span) where
   -- the rule: the first test that fails denies; else control goes to each target, and falls through
-  unfoldable pub rule : ℕ → Depths → Ruling Answer
+  unfoldable pub rule : ℕ → Depths → Ruling Refusal
   rule p d =
       unless denies (needs_test (lacks S p) (tag_of S p) (operands_needed S p) p d)
-      (cond (plain (tag_of S p) && leb span.end (next S p)) (denies Answer.FallsOffTheEnd)
+      (cond (plain (tag_of S p) && leb span.end (next S p)) (denies Refusal.FallsOffTheEnd)
       (gives (after S p d).operands (cond (falls (tag_of S p)) (some (after S p d)) none)
       (map (λ (t : ℕ). record { place = t; depths = jumped S p d }) (targets S p))))
 
   -- the tests of a jump from a place to a target
-  unfoldable pub judge : ℕ → ℕ → Option Answer
+  unfoldable pub judge : ℕ → ℕ → Option Refusal
   judge p t =
-      cond (ltb t span.entry || leb span.end t) (some (Answer.JumpOutOfRange p t))
-      (cond (among t (starts S.code)) none (some (Answer.JumpIntoAnInstruction p t)))
+      cond (ltb t span.entry || leb span.end t) (some (Refusal.JumpOutOfRange p t))
+      (cond (among t (starts S.code)) none (some (Refusal.JumpIntoAnInstruction p t)))
 
-  abbrev pub machine : Machine Answer
+  abbrev pub machine : Machine Refusal
   machine = record {
     entry = span.entry;
     end = span.end;
@@ -56,26 +56,26 @@ module _ (S : Script) (span : Span) where
     named = λ p. among p (span.entry ∷ all_targets S (chunk_starts S span));
     rule = rule;
     judge = judge;
-    off = Answer.FallsOffTheEnd;
-    clash = Answer.DepthConflict;
+    off = Refusal.FallsOffTheEnd;
+    clash = Refusal.DepthConflict;
   }
 
 -- ---- the tests before the walk
 
 -- 7, then 8
-unfoldable pub span_test : (code : List ℕ) (entry end : ℕ) → Option Answer
+unfoldable pub span_test : (code : List ℕ) (entry end : ℕ) → Option Refusal
 span_test code entry end =
-    cond (ltb end entry || ltb (length code) end) (some (Answer.ChunkOutOfRange entry end))
-    (cond (not (among entry (starts code) || eqb entry (length code))) (some (Answer.Misaligned entry)) none)
+    cond (ltb end entry || ltb (length code) end) (some (Refusal.ChunkOutOfRange entry end))
+    (cond (not (among entry (starts code) || eqb entry (length code))) (some (Refusal.Misaligned entry)) none)
 
 -- 3, of so many targets and edges: room for records, then for work
-unfoldable pub room_test : (targets edges records work : ℕ) → Option Answer
+unfoldable pub room_test : (targets edges records work : ℕ) → Option Refusal
 room_test targets edges records work =
-    cond (ltb records (4 * (1 + targets))) (some (Answer.NoRoom (4 * (1 + targets)) 3))
-    (cond (ltb work (4 * (1 + edges))) (some (Answer.NoRoom (4 * (1 + edges)) 4)) none)
+    cond (ltb records (4 * (1 + targets))) (some (Refusal.NoRoom (4 * (1 + targets)) 3))
+    (cond (ltb work (4 * (1 + edges))) (some (Refusal.NoRoom (4 * (1 + edges)) 4)) none)
 
 -- all of them, of a chunk, where so many words of records and of work are lent
-unfoldable pub open_test : Script → Span → (records work : ℕ) → Option Answer
+unfoldable pub open_test : Script → Span → (records work : ℕ) → Option Refusal
 open_test S span records work =
     unless some (span_test S.code span.entry span.end) (room_test (T S span) (E S span) records work)
 
@@ -84,21 +84,21 @@ open_test S span records work =
 -- a chunk passes with its height and its two counts, or fails with an answer
 pub data Judged : Type 0 where
   passes : (height reached taken : ℕ) → Judged
-  fails : Answer → Judged
+  fails : Refusal → Judged
 
 -- 14, of a walk that refuses nothing
-unfoldable pub height_test : (height declared : ℕ) → Option Answer
-height_test height declared = cond (ltb declared height) (some (Answer.StackExceedsDeclared height declared)) none
+unfoldable pub height_test : (height declared : ℕ) → Option Refusal
+height_test height declared = cond (ltb declared height) (some (Refusal.StackExceedsDeclared height declared)) none
 
 -- What a walk comes to. The last line, of a walk that is out of units, is there since a definition has to answer for
 -- every run. It is never used: a walk has as many units as there can be items, so that no item of a chunk that passed
 -- the checks before its walk is left when they are spent. `walk_ends` in proofs/Demand says so, and `walk_told`
 -- there, that such a chunk is judged by one of the two lines before it.
-unfoldable pub measured : (declared : ℕ) → Run Answer Log → Judged
+unfoldable pub measured : (declared : ℕ) → Run Refusal Log → Judged
 measured declared (accepted b) =
     unless fails (height_test b.height declared) (passes b.height b.reached b.taken)
 measured declared (refused r spent) = fails r
-measured declared (unfinished w b) = fails Answer.FallsOffTheEnd
+measured declared (unfinished w b) = fails Refusal.FallsOffTheEnd
 
 module _ (S : Script) (span : Span) where
   -- the walk has as many units as there can be items, so it ends

@@ -7,7 +7,7 @@
 -- given exactly when its test, in its turn, is the first to fail". Nothing here knows how a chunk is walked.
 use Rattle.std.specs.Prelude.{List, ◌↔◌, ◌⊎◌, ◌≡◌, ℕ, ◌+◌, ◌≤◌, ◌<◌, length}
 use Rattle.std.proofs.Math.Option.{Option, some}
-use Rattle.answer.specs.declared.Answer.{Answer}
+use Rattle.answer.specs.declared.Refusal.{Refusal}
 use Rattle.answer.specs.declared.Depths.{Depths}
 use Rattle.answer.specs.Depths.{zeros, Item}
 use Rattle.code.specs.Width.{width_of}
@@ -65,33 +65,33 @@ module _ (S : Script) (span : Span) where
     pub inside : InChunk S span p
 
   -- the answer of a walk that is real: an instruction on a path fails the test, with these values
-  pub data Real : Answer → Type 0 where
+  pub data Real : Refusal → Type 0 where
     -- 4: it lacks these rights
-    lacks_rights : {p : ℕ} {d : Depths} → Met p d → 0 < lacks S p → Real (Answer.MissingCaps p (lacks S p))
+    lacks_rights : {p : ℕ} {d : Depths} → Met p d → 0 < lacks S p → Real (Refusal.MissingCaps p (lacks S p))
     -- 9: it has what it needs, and names a target outside the chunk
     leaves : {p t : ℕ} {d : Depths} → Met p d → Able S p d → t ∈ targets S p → (t < span.entry) ⊎ (span.end ≤ t)
-        → Real (Answer.JumpOutOfRange p t)
+        → Real (Refusal.JumpOutOfRange p t)
     -- 10: it has what it needs, and names a target in the chunk at which no instruction starts
     splits : {p t : ℕ} {d : Depths} → Met p d → Able S p d → t ∈ targets S p → span.entry ≤ t → t < span.end
-        → ¬ Start width_of S.code t → Real (Answer.JumpIntoAnInstruction p t)
+        → ¬ Start width_of S.code t → Real (Refusal.JumpIntoAnInstruction p t)
     -- 11: two paths bring different depths to it
-    disagrees : {p : ℕ} {d e : Depths} → Met p d → Met p e → ¬ (d ≡ e) → Real (Answer.DepthConflict p d e)
+    disagrees : {p : ℕ} {d e : Depths} → Met p d → Met p e → ¬ (d ≡ e) → Real (Refusal.DepthConflict p d e)
     -- 12: it has its rights, and needs more operands than there are
     underflows : {p : ℕ} {d : Depths} → Met p d → lacks S p ≡ 0 → d.operands < operands_needed S p
-        → Real (Answer.Underflow p (operands_needed S p) d.operands)
+        → Real (Refusal.Underflow p (operands_needed S p) d.operands)
     -- 13: a path runs off the end
-    runs_off : {i : Item} → Path i → span.end ≤ i.place → Real Answer.FallsOffTheEnd
+    runs_off : {i : Item} → Path i → span.end ≤ i.place → Real Refusal.FallsOffTheEnd
     -- 15, 16: it has its rights and its operands, and needs an iterator, or a handler, where there is none
     no_iterator : {p : ℕ} {d : Depths} → Met p d → lacks S p ≡ 0 → operands_needed S p ≤ d.operands
-        → d.iterators < iterators_needed (tag_of S p) → Real (Answer.IteratorUnderflow p)
+        → d.iterators < iterators_needed (tag_of S p) → Real (Refusal.IteratorUnderflow p)
     no_handler : {p : ℕ} {d : Depths} → Met p d → lacks S p ≡ 0 → operands_needed S p ≤ d.operands
-        → d.handlers < handlers_needed (tag_of S p) → Real (Answer.HandlerUnderflow p)
+        → d.handlers < handlers_needed (tag_of S p) → Real (Refusal.HandlerUnderflow p)
 
   -- 14: a whole walk refuses nothing, and the largest depth on the paths is above the declared height
-  pub record Exceeds (a : Answer) : Type 0 where
+  pub record Exceeds (a : Refusal) : Type 0 where
     pub height : ℕ
     pub reached : ℕ
     pub taken : ℕ
     pub measures : Measures height reached taken
     pub above : span.declared < height
-    pub answer : a ≡ Answer.StackExceedsDeclared height span.declared
+    pub answer : a ≡ Refusal.StackExceedsDeclared height span.declared

@@ -5,15 +5,21 @@
 // the call runs.
 #![tactic(auto)]
 
-ghost use Rattle.std.specs.Prelude.{length};
+ghost use Rattle.std.specs.Prelude.{◌≡◌, length};
+ghost use Rattle.before.specs.Input.{input_of};
 ghost use Rattle.before.specs.Parameters.{input};
 ghost use Rattle.verify.specs.Call.{Calls};
+ghost use Rattle.verify.specs.Stages.{finished};
 ghost use Rattle.grain.specs.Chunks.{spans_from};
 
 pub mod item;
 
 use answer::verdict::Verdict;
+use before::Input;
+use pools::Pools;
+use rules::Script;
 use verify::stages;
+use verify::stages::State;
 
 // A chunk's span in the code, and the height that it declares.
 #[repr(C)]
@@ -24,7 +30,52 @@ pub struct Chunk {
     pub max_stack: u16,
 }
 
-// The whole call.
+// All stages but the last, of an input with as many chunks as there are records.
+fn judged(
+    input: &Input<'_>,
+    chunks: &[Chunk],
+    marks: &mut [u64],
+    heights: &mut [u16],
+    records: &mut [u32],
+    work: &mut [u32],
+) -> State
+    requires { input.now.chunks ≡ length (spans_from chunks.now) }
+    ensures { Calls
+        (input_of input.now)
+        (spans_from chunks.now)
+        (record {
+          marks = marks.old;
+          heights = heights.old;
+          records = records.old;
+          work = work.old;
+        })
+        (finished result)
+        (record {
+          marks = marks.new;
+          heights = heights.new;
+          records = records.new;
+          work = work.new;
+        }) }
+{
+    let mut counted = stages::begin(input, heights.len(), marks, records, work)?;
+    for (number, chunk) in chunks.iter().enumerate() {
+        counted = stages::take_span(
+            Ok(counted),
+            &input.script,
+            chunk.entry,
+            chunk.end,
+            chunk.max_stack,
+            number,
+            marks,
+            heights,
+            records,
+            work,
+        )?;
+    }
+    Ok(counted)
+}
+
+// The whole call. C interface: its flat parameters, in this order.
 #[unsafe(no_mangle)]
 pub extern "C" fn grain_verify(
     rights: u32,
@@ -63,9 +114,7 @@ pub extern "C" fn grain_verify(
           work = work.new;
         }) }
 {
-    let mut state = stages::begin(
-        rights,
-        functions,
+    let pools = Pools {
         constants,
         names,
         tokens,
@@ -75,36 +124,16 @@ pub extern "C" fn grain_verify(
         switches,
         cases,
         ranges,
+    };
+    let script = Script {
         code,
-        chunks.len(),
-        heights.len(),
-        marks,
-        records,
-        work,
-    );
-    let mut number: usize = 0;
-    while stages::goes_on(state, number, chunks.len()) {
-        let chunk = chunks[number];
-        state = stages::take_span(
-            state,
-            rights,
-            names,
-            chains,
-            steps,
-            switches,
-            cases,
-            ranges,
-            code,
-            chunk.entry,
-            chunk.end,
-            chunk.max_stack,
-            number,
-            marks,
-            heights,
-            records,
-            work,
-        );
-        number += 1;
-    }
-    stages::finish(state)
+        pools,
+        rights,
+    };
+    let input = Input {
+        script,
+        functions,
+        chunks: chunks.len(),
+    };
+    stages::finish(judged(&input, chunks, marks, heights, records, work))
 }

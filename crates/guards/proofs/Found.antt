@@ -4,35 +4,20 @@ use mathlib.Core.List.{List}
 use mathlib.Core.Path.{◌≡◌, refl, sym, ap, ◌∙◌}
 use Prim.Native.Nat.{ℕ, ◌+◌, ◌*◌, ◌≤◌, ◌<◌}
 use borrow.Author.Tests.{eq-eqb, ne_eqb, lt-ltb, le-ltb}
+use Rattle.std.specs.Prelude.{Result, Ok, Err, is_ok}
 use lib.Dec.{eqb, leb, ltb}
 use lib.ListN.{length, get_or}
 use Rattle.code.proofs.Widths.{wide, told_width}
 use Rattle.code.specs.Layout.{among, tag_at, index_at}
 use Rattle.code.specs.Tags.{byte, bytes}
-use Rattle.code.specs.Tags.{LOAD_NAMED, CHAIN, SWITCH, CALL, CALL_THIS_REF, CALL_OP, CALL_LOCAL_REF, CALL_NAMED_REF}
-use Rattle.code.specs.Answers.{found, without, found_at}
+use Rattle.code.specs.Tags.{CHAIN, SWITCH}
+use Rattle.code.specs.Answers.{found_at}
+use Rattle.code.specs.declared.NoWidth.{NoWidth}
 use Rattle.code.specs.Width.{width_of, width_at}
 use Rattle.pools.specs.Pools.{chain_at, switch_at, chain_words, switch_words, chains_in, steps_in, switches_in, cases_in}
 use Rattle.rules.proofs.Operands.{index_there}
 use Rattle.rules.specs.Asks.{qualifiable}
 use Rattle.guards.specs.Guards.{has_width, has_name, has_chain, has_switch}
-
--- tests joined from the left, as the code does, and from the right, as the definition does
-regrouped : (a b c d e f : Bool) → ((((a || b) || c) || d) || e) || f ≡ a || (b || (c || (d || (e || (f || false)))))
-regrouped true b c d e f = refl
-regrouped false true c d e f = refl
-regrouped false false true d e f = refl
-regrouped false false false true e f = refl
-regrouped false false false false true f = refl
-regrouped false false false false false true = refl
-regrouped false false false false false false = refl
-
-pub looks : (tag : ℕ)
-    → ((((eqb tag (byte LOAD_NAMED) || eqb tag (byte CALL)) || eqb tag (byte CALL_OP)) || eqb tag (byte CALL_LOCAL_REF)) || eqb tag (byte CALL_NAMED_REF)) || eqb tag (byte CALL_THIS_REF)
-    ≡ among tag (bytes qualifiable)
-unfolding among
-looks tag =
-    regrouped (eqb tag (byte LOAD_NAMED)) (eqb tag (byte CALL)) (eqb tag (byte CALL_OP)) (eqb tag (byte CALL_LOCAL_REF)) (eqb tag (byte CALL_NAMED_REF)) (eqb tag (byte CALL_THIS_REF))
 
 third : (a b c : Bool) → c ≡ true → a || (b || c) ≡ true
 third true b c e = refl
@@ -42,13 +27,11 @@ third false false c e = e
 module _ (code : List ℕ) (at : ℕ) where
   -- ---- a width
 
-  pub width_found : (w : ℕ) → found w ≡ found_at code at → true ≡ has_width code at
+  pub width_ok : (t : Result ℕ NoWidth) → t ≡ found_at code at → is_ok t ≡ has_width code at
   unfolding has_width
-  width_found w e = sym (lt-ltb 0 w (wide width_of code at w e).some) ∙ sym (ap (ltb 0) (told_width width_of code at e))
-
-  pub no_width : (why : ℕ) → without why ≡ found_at code at → false ≡ has_width code at
-  unfolding has_width
-  no_width why e = sym (ap (ltb 0) (told_width width_of code at e))
+  width_ok (Ok w) e =
+      sym (lt-ltb 0 w (wide width_of code at w e).some) ∙ sym (ap (ltb 0) (told_width width_of code at e))
+  width_ok (Err why) e = sym (ap (ltb 0) (told_width width_of code at e))
 
   -- ---- a name
 

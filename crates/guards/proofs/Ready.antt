@@ -6,8 +6,9 @@ use Prim.Native.Nat.{ℕ, ◌<◌}
 use native.Mathlib.Omega.{arith}
 use borrow.Author.Tests.{eq-eqb, ltb-true, leb-true}
 use Rattle.code.specs.Width.{width_at}
-use Rattle.rules.specs.There.{NameThere, ChainEntry, ChainThere, SwitchEntry, SwitchThere}
-use Rattle.guards.specs.Guards.{has_width, has_name, has_chain, has_switch, is_there}
+use Rattle.rules.specs.Script.{Script}
+use Rattle.rules.specs.There.{NameThere, ChainThere, SwitchThere, Stands}
+use Rattle.guards.specs.Guards.{has_width, has_name, has_chain, has_switch, is_there, there}
 
 -- ---- two tests in one
 
@@ -61,28 +62,15 @@ module _ (code : List ℕ) (at : ℕ) where
 
 -- ---- all of them
 
-module _ (code : List ℕ) (at : ℕ) (names chains steps switches cases ranges : List ℕ) where
-  pub record Ready : Type 0 where
-    pub wide : 0 < width_at code at
-    pub name_there : NameThere code names at
-    pub chain_entry : ChainEntry code chains at
-    pub chain_there : ChainThere code chains steps at
-    pub switch_entry : SwitchEntry code switches at
-    pub switch_there : SwitchThere code switches cases ranges at
-
-  pub ready : is_there code at names chains steps switches cases ranges ≡ true → Ready
-  unfolding is_there
-  ready e =
-      let p = both _ _ e in
-      let q = both _ _ p.1 in
-      let r = both _ _ q.1 in
-      let chain = chain_of code at chains steps r.0 in
-      let switch = switch_of code at switches cases ranges r.1 in
-      record {
-        wide = wide_of code at p.0;
-        name_there = name_of code at names q.0;
-        chain_entry = record { entry = λ t. (chain.chain t).entry };
-        chain_there = chain;
-        switch_entry = record { entry = λ t. (switch.switch t).entry };
-        switch_there = switch;
-      }
+pub stands : {S : Script} {p : ℕ} → there S p ≡ true → Stands S p
+unfolding is_there
+stands {S} {p} e =
+    let w = both _ _ e in
+    let n = both _ _ w.1 in
+    let c = both _ _ n.1 in
+    record {
+      wide = wide_of S.code p w.0;
+      name = name_of S.code p S.pools.names n.0;
+      chain = chain_of S.code p S.pools.chains S.pools.steps c.0;
+      switch = switch_of S.code p S.pools.switches S.pools.cases S.pools.ranges c.1;
+    }

@@ -7,6 +7,7 @@ use Rattle.code.specs.Tags.{byte, bytes, CHAIN, SWITCH}
 use Rattle.code.specs.Width.{width_at}
 use Rattle.pools.specs.Pools.{Chain, Switch, chain_at, switch_at, chains_in, steps_in, switches_in, cases_in}
 use Rattle.rules.specs.Asks.{qualifiable}
+use Rattle.rules.specs.Script.{Script}
 
 module _ (code : List ℕ) (at : ℕ) where
   unfoldable pub has_width : Bool
@@ -42,3 +43,8 @@ module _ (code : List ℕ) (at : ℕ) (names chains steps switches cases ranges 
   is_there =
       has_width code at && (has_name code at names
       && (has_chain code at chains steps && has_switch code at switches cases ranges))
+
+-- the same of a script
+abbrev pub there : Script → ℕ → Bool
+there S p =
+    is_there S.code p S.pools.names S.pools.chains S.pools.steps S.pools.switches S.pools.cases S.pools.ranges

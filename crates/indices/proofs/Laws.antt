@@ -2,16 +2,18 @@
 -- none.
 use mathlib.Core.Bool.{Bool, true, false, cond}
 use mathlib.Core.List.{List, [], ◌∷◌, ◌++◌, Memᴰ}
-use mathlib.Core.Path.{◌≡◌, refl, sym, ap}
+use mathlib.Core.Path.{◌≡◌, refl, sym, ap, ◌∙◌}
 use Prim.Native.Nat.{ℕ, ◌<◌, ◌≤◌}
 use native.Mathlib.Omega.{arith}
 use borrow.Author.Tests.{lt-ltb, ltb-true, ltb-false}
 use lib.Dec.{eqb, ltb}
+use Rattle.std.specs.Prelude.{Result, Ok, Err}
+use Rattle.std.specs.Result.{IsErr, IsErrAnd}
 use Rattle.pools.specs.Told.{Told, fine}
 use Rattle.indices.specs.Indices.{Ref, into, bad_ref, first_bad_ref}
-use Rattle.indices.specs.Checks.{checked_told}
-use Rattle.indices.specs.declared.Checked.{Checked}
-use Rattle.indices.specs.declared.Checked.TheVariants.{Fine, Bad}
+use Rattle.indices.specs.Checks.{checked_by, checked_told}
+use Rattle.indices.specs.declared.BadIndex.{BadIndex}
+use Rattle.indices.specs.declared.Pool.{Pool}
 
 -- a refusal is not the answer that all is fine
 not_fine : {r : Ref} → bad_ref r ≡ fine → ⊥
@@ -86,13 +88,17 @@ module _ (size : ℕ → ℕ) (ys : List Ref) where
       among (x ∷ xs) (Memᴰ.head q) = Memᴰ.head q
       among (x ∷ xs) (Memᴰ.tail m) = Memᴰ.tail (among xs m)
 
-  module _ (xs : List Ref) {first : Checked} (found : checked_told first ≡ first_bad_ref size xs) where
+  module _ (xs : List Ref) where
     -- where code finds the first list fine, the second's answer is that of both
-    pub goes_on : first ≡ Fine → first_bad_ref size ys ≡ first_bad_ref size (xs ++ ys)
-    unfolding checked_told
-    goes_on e = sym (rw (both xs, ← found, e))
+    pub goes_on : (x : Unit) {t : Told} → checked_told (Ok x) ≡ first_bad_ref size xs
+        → t ≡ first_bad_ref size ys → t ≡ first_bad_ref size (xs ++ ys)
+    unfolding checked_by
+    goes_on x found e = e ∙ sym (rw (both xs, ← found))
 
-    -- where it finds one of the first bad, that is the answer
-    pub stops : {index pool : ℕ} → first ≡ Bad index pool → checked_told first ≡ first_bad_ref size (xs ++ ys)
-    unfolding checked_told
-    stops e = rw (both xs, ← found, e)
+    -- where it finds one of the first bad, that is what it hands on
+    pub stops : (bad : BadIndex Pool) (r : Result Unit (BadIndex Pool))
+        → checked_told (Err bad) ≡ first_bad_ref size xs → IsErr r × IsErrAnd r (λ a. a ≡ bad)
+        → checked_told r ≡ first_bad_ref size (xs ++ ys)
+    unfolding checked_by
+    stops bad (Ok x) found same = absurd same.1
+    stops bad (Err a) found same = rw (same.1, both xs, ← found)

@@ -5,3 +5,4 @@ pub mod Unpacked
 pub mod InTurn
 pub mod Named
 pub mod Once
+pub mod Numbers

@@ -4,6 +4,7 @@ use mathlib.Core.Bool.{Bool, true, false, ◌&&◌}
 use mathlib.Core.List.{List, [], ◌∷◌, Memᴰ}
 use mathlib.Core.Path.{◌≡◌, refl, ap, ◌∙◌}
 use Prim.Native.Nat.{ℕ, ◌+◌, ◌<◌, ◌≤◌}
+use native.Mathlib.Omega.{arith}
 use lib.Dec.{T, eqb, leb, eqb→eq, leb→le}
 use lib.ListN.{get_or, replicate}
 use Rattle.code.specs.Layout.{Index, indices, layout, among, indices_from}
@@ -92,3 +93,30 @@ is_within tag x = are_within (width_of tag) (indices tag)
 pub within : (tag : ℕ) → tag < 256 → Within (width_of tag) (indices tag)
 unfolding is_within
 within tag h = are_within_lem (width_of tag) (indices tag) (each is_within (replicate 256 0) tt tag h)
+
+-- each index points into a pool that has a number
+abbrev pub Known : List Index → Type 0
+Known is = (i : Index) → Memᴰ i is → (0 < i.pool) × (i.pool < 8)
+
+abbrev are_known : List Index → Bool
+are_known [] = true
+are_known (i ∷ is) = (leb 1 i.pool && leb i.pool 7) && are_known is
+
+are_known_lem : (is : List Index) → T (are_known is) → Known is
+are_known_lem [] t i x'' = elim x'' [ ]
+are_known_lem (j ∷ js) t i (Memᴰ.head q) =
+    let both = left (leb 1 j.pool && leb j.pool 7) (are_known js) t in
+    let low = leb→le 1 j.pool (left (leb 1 j.pool) (leb j.pool 7) both) in
+    let high = leb→le j.pool 7 (right (leb 1 j.pool) (leb j.pool 7) both) in
+    rw q (omega arith, omega arith)
+are_known_lem (j ∷ js) t i (Memᴰ.tail m) =
+    are_known_lem js (right (leb 1 j.pool && leb j.pool 7) (are_known js) t) i m
+
+is_known : ℕ → ℕ → Bool
+unfolding layout among indices_from
+is_known tag x = are_known (indices tag)
+
+-- each index of a tag does
+pub known : (tag : ℕ) → tag < 256 → Known (indices tag)
+unfolding is_known
+known tag h = are_known_lem (indices tag) (each is_known (replicate 256 0) tt tag h)

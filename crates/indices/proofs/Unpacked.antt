@@ -12,13 +12,15 @@ use Rattle.code.specs.Layout.{Index, indices, tag_at}
 use Rattle.code.specs.Width.{width_of, width_at}
 use Rattle.code.proofs.Widths.{Wide, width_there}
 use Rattle.indices.specs.Fields.{index_digits, unpacked}
+use Rattle.std.specs.Prelude.{Result, Ok, Err}
+use Rattle.std.specs.Result.{IsErr, IsErrAnd}
 use Rattle.pools.specs.Told.{fine}
 use Rattle.indices.specs.Indices.{Ref, ref_at, in_code, first_bad_ref}
 use Rattle.indices.specs.Checks.{checked_told}
-use Rattle.indices.specs.declared.Checked.{Checked}
-use Rattle.indices.specs.declared.Checked.TheVariants.{Fine, Bad}
+use Rattle.indices.specs.declared.BadIndex.{BadIndex}
+use Rattle.indices.specs.declared.Pool.{Pool}
 use Rattle.indices.proofs.Laws.{goes_on, stops}
-use Rattle.indices.proofs.Table.{Within, within}
+use Rattle.indices.proofs.Table.{Within, within, Known, known}
 
 -- the second index of an entry, if there is one
 abbrev second : ℕ → List Index
@@ -49,6 +51,18 @@ module _ (code : List ℕ) (at e : ℕ) (is : unpacked e ≡ indices (tag_at cod
     ends : (i : Index) → Memᴰ i (index_digits (e / 256) ∷ second e) → at + i.offset + 2 ≤ length code
     ends i m = omega (arith, fit i m, wide.tag, wide.within)
 
+    pools : Known (index_digits (e / 256) ∷ second e)
+    unfolding unpacked
+    pools = rw (← is, ne_eqb e 0 some) at (known (tag_at code at) byte)
+
+    -- the first names a pool
+    pub first_known : (0 < e / 256 % 16) × (e / 256 % 16 < 8)
+    first_known = pools (index_digits (e / 256)) (Memᴰ.head refl)
+
+    -- and so does a second
+    pub second_known : (e % 256 ≡ 0 → ⊥) → (0 < e % 256 % 16) × (e % 256 % 16 < 8)
+    second_known more = pools (index_digits (e % 256)) (rw (ne_eqb (e % 256) 0 more) (Memᴰ.tail (Memᴰ.head refl)))
+
     -- the first ends within the code
     pub first_within : at + e / 256 / 16 + 2 ≤ length code
     first_within = ends (index_digits (e / 256)) (Memᴰ.head refl)
@@ -69,18 +83,20 @@ module _ (code : List ℕ) (at e : ℕ) (is : unpacked e ≡ indices (tag_at cod
     unfolding unpacked
     both some = ap (first_bad_ref size) (rw (ne_eqb e 0 some) at all)
 
-    module _ (some : e ≡ 0 → ⊥) {first : Checked} (found : checked_told first ≡ first_bad_ref size head) where
-      pub first_bad : {index pool : ℕ} → first ≡ Bad index pool
-          → checked_told first ≡ first_bad_ref size (in_code code at)
-      first_bad b = stops size tail head found b ∙ both some
+    module _ (some : e ≡ 0 → ⊥) where
+      pub first_bad : (bad : BadIndex Pool) (r : Result Unit (BadIndex Pool))
+          → checked_told (Err bad) ≡ first_bad_ref size head → IsErr r × IsErrAnd r (λ a. a ≡ bad)
+          → checked_told r ≡ first_bad_ref size (in_code code at)
+      first_bad bad r found same = stops size tail head bad r found same ∙ both some
 
-      rest : first ≡ Fine → first_bad_ref size tail ≡ first_bad_ref size (in_code code at)
-      rest f = goes_on size tail head found f ∙ both some
+      module _ (x : Unit) (found : checked_told (Ok x) ≡ first_bad_ref size head) where
+        rest : first_bad_ref size tail ≡ first_bad_ref size (in_code code at)
+        rest = goes_on size tail head x found refl ∙ both some
 
-      pub no_second : first ≡ Fine → e % 256 ≡ 0 → fine ≡ first_bad_ref size (in_code code at)
-      unfolding first_bad_ref
-      no_second f z = rw z at (rest f)
+        pub no_second : e % 256 ≡ 0 → fine ≡ first_bad_ref size (in_code code at)
+        unfolding first_bad_ref
+        no_second z = rw z at rest
 
-      pub a_second : first ≡ Fine → (e % 256 ≡ 0 → ⊥)
-          → first_bad_ref size (ref_at code at (index_digits (e % 256)) ∷ []) ≡ first_bad_ref size (in_code code at)
-      a_second f more = rw (ne_eqb (e % 256) 0 more) at (rest f)
+        pub a_second : (e % 256 ≡ 0 → ⊥)
+            → first_bad_ref size (ref_at code at (index_digits (e % 256)) ∷ []) ≡ first_bad_ref size (in_code code at)
+        a_second more = rw (ne_eqb (e % 256) 0 more) at rest

@@ -2,18 +2,34 @@
 -- hold of the tables, and what the check of an instruction tells of all that is lent. Document 01, "Forms to follow in
 -- each place": "For each answer that is an enum, a definition gives this paper's number and values for every case of
 -- that enum."
-use Rattle.std.specs.Prelude.{List, ◌≡◌, ℕ, length}
+use Rattle.std.specs.Prelude.{List, ◌≡◌, ℕ, length, Result, Ok, Err}
 use Rattle.pools.specs.Good.{EachSwitch, CasesWithin, ChainsWithin}
 use Rattle.pools.specs.Pools.{Pools, chains_in, switches_in, cases_in}
 use Rattle.pools.specs.Told.{Told, fine}
 use Rattle.indices.specs.Indices.{Tables, into, bad_ref, first_bad_ref, size_of, refs, tables_of}
-use Rattle.indices.specs.declared.Checked.{Checked}
-use Rattle.indices.specs.declared.Checked.TheVariants.{Fine, Bad}
+use Rattle.indices.specs.declared.BadIndex.{BadIndex}
+use Rattle.indices.specs.declared.Pool.{Pool}
+use Rattle.indices.specs.declared.Pool.TheVariants.{Constant, Name, Operator, OpAssignment, Chain, Switch, Site}
 use Rattle.indices.specs.declared.Sizes.{Sizes}
+use Rattle.pools.specs.declared.limits.Sizes as counted
 
-unfoldable pub checked_told : Checked → Told
-checked_told Fine = fine
-checked_told (Bad index pool) = bad_ref (into pool index)
+-- "pool (constant 1, name, operator, op-assignment, chain, switch, site 7)"
+unfoldable pub pool_number : Pool → ℕ
+pool_number Constant = 1
+pool_number Name = 2
+pool_number Operator = 3
+pool_number OpAssignment = 4
+pool_number Chain = 5
+pool_number Switch = 6
+pool_number Site = 7
+
+-- an answer, where a pool goes by so many
+unfoldable pub checked_by : {P : Type 0} → (P → ℕ) → Result Unit (BadIndex P) → Told
+checked_by number (Ok x) = fine
+checked_by number (Err bad) = bad_ref (into (number bad.pool) bad.index)
+
+abbrev pub checked_told : Result Unit (BadIndex Pool) → Told
+checked_told r = checked_by pool_number r
 
 -- the tables that the parameters of a call lend
 abbrev pub tables : (chains steps switches cases : List ℕ) → Tables
@@ -35,6 +51,17 @@ pool_counts p = record {
   op_assignments = p.op_assignments;
   chains = chains_in p.chains;
   switches = switches_in p.switches;
+}
+
+-- the same from all counts
+abbrev pub pool_sizes : counted.Sizes → Sizes
+pool_sizes all = record {
+  constants = all.constants;
+  names = all.names;
+  tokens = all.tokens;
+  op_assignments = all.op_assignments;
+  chains = all.chains;
+  switches = all.switches;
 }
 
 -- what the check of the instruction at an offset tells

@@ -1,12 +1,13 @@
 // The indices among an instruction's own bytes. Where they stand and which pool each points into is one table.
-ghost use Rattle.std.specs.Prelude.{◌≡◌, [], ◌∷◌, ◌+◌, ◌/◌, ◌≤◌, ◌<◌, length, get_or};
+ghost use Rattle.std.specs.Prelude.{◌≡◌, [], ◌∷◌, ◌+◌, ◌/◌, ◌%◌, ◌≤◌, ◌<◌, length, get_or};
 ghost use Rattle.code.specs.Layout.{indices};
 ghost use Rattle.code.specs.Width.{width_at};
 ghost use Rattle.indices.specs.Fields.{index_digits, unpacked, index_rows};
 ghost use Rattle.indices.specs.Indices.{first_bad_ref, in_code, ref_at, size_of};
-ghost use Rattle.indices.specs.Checks.{checked_told};
+ghost use Rattle.indices.specs.Checks.{checked_told, pool_number};
 
-use super::{Checked, Sizes, bounded, pool};
+use super::{BadIndex, Pool, Sizes, bounded};
+use code::Number;
 
 // The indices of four tags, 16 bits each, the lowest tag lowest: four hexadecimal digits, offset and pool of the first
 // index, then of the second. 0: none. The numbers stand in a `match`, since an array would be stored anew at every use.
@@ -45,47 +46,47 @@ fn fields_of(tag: u8) -> u16
     ((field_row(tag / 4) >> (tag % 4 * 16)) % 0x10000) as u16
 }
 
-// How many entries the pool of a number holds.
-fn size_of(sizes: Sizes, number: u64) -> usize
-    ensures { result ≡ size_of sizes number }
+// The pool of a digit of the table.
+#[tactic(auto, unfolding(crate::specs::Checks::pool_number))]
+fn pool_of(digit: u16) -> Pool
+    requires { (0 < digit) × (digit < 8) }
+    ensures { pool_number result ≡ digit }
 {
-    match number {
-        pool::CONSTANT => sizes.constants,
-        pool::NAME => sizes.names,
-        pool::OPERATOR => sizes.tokens,
-        pool::OP_ASSIGNMENT => sizes.op_assignments,
-        pool::CHAIN => sizes.chains,
-        pool::SWITCH => sizes.switches,
-        _ => 0,
+    match digit {
+        1 => Pool::Constant,
+        2 => Pool::Name,
+        3 => Pool::Operator,
+        4 => Pool::OpAssignment,
+        5 => Pool::Chain,
+        6 => Pool::Switch,
+        _ => Pool::Site,
     }
 }
 
 // One index of the instruction at an offset: `field` is its offset from there and its pool, a digit each.
-fn check_field(code: &[u8], at: usize, field: u16, sizes: Sizes) -> Checked
-    requires { at + field / 16 + 2 ≤ length code.now }
+fn check_field(code: &[u8], at: usize, field: u16, sizes: Sizes) -> Result<(), BadIndex>
+    requires within { at + field / 16 + 2 ≤ length code.now }
+    requires pool { (0 < field % 16) × (field % 16 < 8) }
     ensures { checked_told result ≡ first_bad_ref (size_of sizes) (ref_at code.now at (index_digits field) ∷ []) }
 {
     let offset = (field / 16) as usize;
-    let pool = (field % 16) as u64;
-    let index = code::read_u16(code, at + offset) as u32;
-    bounded(index, pool, size_of(sizes, pool))
+    let pool = pool_of(field % 16);
+    let index = u16::read(code, at + offset) as u32;
+    bounded(index, pool, sizes.of(pool))
 }
 
 // All indices of the instruction at an offset, up to the first bad one.
-pub fn check_fields(code: &[u8], at: usize, sizes: Sizes) -> Checked
+pub fn check_fields(code: &[u8], at: usize, sizes: Sizes) -> Result<(), BadIndex>
     requires { 0 < width_at code.now at }
     ensures { checked_told result ≡ first_bad_ref (size_of sizes) (in_code code.now at) }
 {
     let fields = fields_of(code[at]);
     if fields == 0 {
-        return Checked::Fine;
+        return Ok(());
     }
-    let first = check_field(code, at, fields / 256, sizes);
-    if let Checked::Bad { .. } = first {
-        return first;
-    }
+    check_field(code, at, fields / 256, sizes)?;
     if fields % 256 == 0 {
-        return Checked::Fine;
+        return Ok(());
     }
     check_field(code, at, fields % 256, sizes)
 }

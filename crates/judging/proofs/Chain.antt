@@ -2,16 +2,16 @@
 use mathlib.Core.List.{List, [], ◌∷◌}
 use mathlib.Core.Path.{◌≡◌, refl, sym, ap, ◌∙◌}
 use Prim.Native.Nat.{ℕ, zero, suc, ◌+◌, ◌*◌, ◌≤◌, ◌<◌, min}
-use native.Mathlib.Nat.{min-le_left, min-le_right, suc-min-suc, zero-min, min-zero, le_of_suc-le-suc, not-suc-le-zero}
+use native.Mathlib.Nat.{suc-min-suc, zero-min, min-zero, le_of_suc-le-suc, not-suc-le-zero}
 use native.Mathlib.Omega.{arith}
 use lib.ListN.{length, get_or, set, drop, replicate, length-set, drop_of_length-le}
 use lib.Seq.{drop-cons}
-use Rattle.answer.specs.declared.Answer.{Answer}
+use Rattle.answer.specs.declared.Refusal.{Refusal}
 use Rattle.demand.specs.Chunk.{passes, fails, judge_chunk}
 use Rattle.demand.specs.Chunk as chunk
 use Rattle.rules.specs.Script.{Script}
 use Rattle.demand.specs.Span.{Span, chunk_at}
-use Rattle.judging.specs.declared.Judgement.TheVariants.{Passed, Refused}
+use Rattle.std.specs.Prelude.{Ok, Err}
 use Rattle.judging.specs.Spans.{spans_of}
 use Rattle.judging.specs.Judging.{JudgedAll, judge_all}
 use Rattle.judging.specs.Judges.{Judges, most_reached, most_taken}
@@ -39,16 +39,6 @@ span_there (e ∷ entries) (n ∷ ends) [] k h = absurd (not-suc-le-zero h)
 span_there (e ∷ entries) (n ∷ ends) (d ∷ declared) zero h = refl
 span_there (e ∷ entries) (n ∷ ends) (d ∷ declared) (suc k) h = span_there entries ends declared k (le_of_suc-le-suc h)
 
--- it is within each of the three lists
-pub span_within : (entries ends declared : List ℕ) (k : ℕ) → k < length (spans_of entries ends declared)
-    → (k < length entries) × (k < length ends) × (k < length declared)
-span_within entries ends declared k h =
-    let n = span_count entries ends declared in (
-      omega (arith, min-le_left (length entries) (min (length ends) (length declared))),
-      omega (arith, min-le_right (length entries) (min (length ends) (length declared)), min-le_left (length ends) (length declared)),
-      omega (arith, min-le_right (length entries) (min (length ends) (length declared)), min-le_right (length ends) (length declared)),
-    )
-
 -- what is left from a chunk on
 pub chunk_next : (spans : List Span) (k : ℕ) → k < length spans → drop k spans ≡ chunk_at spans k ∷ drop (suc k) spans
 chunk_next spans k h = drop-cons spans k _ h
@@ -56,7 +46,7 @@ chunk_next spans k h = drop-cons spans k _ h
 -- one judgement, and after it, where all of its chunks pass, another
 unfoldable pub and_then : JudgedAll → ((reached taken : ℕ) → (heights : List ℕ) → JudgedAll) → JudgedAll
 and_then judged more =
-    elim judged.answer [ Passed reached taken ↦ more reached taken judged.heights | Refused chunk a ↦ judged ]
+    elim judged.answer [ Ok sums ↦ more sums.reached sums.taken judged.heights | Err refused ↦ judged ]
 
 module _ (S : Script) (records work : ℕ) where
   -- ---- one chunk
@@ -67,13 +57,13 @@ module _ (S : Script) (records work : ℕ) where
   unfolding judge_all
   judge_passes span spans number reached taken heights e = rw (e, judge_all)
 
-  pub judge_fails : (span : Span) (spans : List Span) (number reached taken : ℕ) (heights : List ℕ) {a : Answer}
+  pub judge_fails : (span : Span) (spans : List Span) (number reached taken : ℕ) (heights : List ℕ) {a : Refusal}
       → judge_chunk S span records work ≡ fails a
-      → judge_all S records work (span ∷ spans) number reached taken heights ≡ record { answer = Refused number a; heights = heights }
+      → judge_all S records work (span ∷ spans) number reached taken heights ≡ record { answer = Err (record { chunk = number; refusal = a }); heights = heights }
   unfolding judge_all
   judge_fails span spans number reached taken heights e = rw (e, judge_all)
 
-  pub judge_none : (number reached taken : ℕ) (heights : List ℕ) → judge_all S records work [] number reached taken heights ≡ record { answer = Passed reached taken; heights = heights }
+  pub judge_none : (number reached taken : ℕ) (heights : List ℕ) → judge_all S records work [] number reached taken heights ≡ record { answer = Ok (record { reached = reached; taken = taken }); heights = heights }
   unfolding judge_all
   judge_none number reached taken heights = refl
 
@@ -109,9 +99,9 @@ module _ (S : Script) (records work : ℕ) where
         record { rest = rw same refl; upto = omega arith; long = refl; records_zero = e; work_zero = f; few_reached = omega arith; few_taken = omega arith }
 
     module _ {heights r w : List ℕ} {at reached taken : ℕ} (J : Judging heights r w at reached taken) where
-      pub judging_done : length spans ≤ at → Judges S records work spans first before (Passed reached taken) heights r w
+      pub judging_done : length spans ≤ at → Judges S records work spans first before (Ok (record { reached = reached; taken = taken })) heights r w
       judging_done h =
-          let all : judge_all S records work spans first 0 0 before ≡ record { answer = Passed reached taken; heights = heights } =
+          let all : judge_all S records work spans first 0 0 before ≡ record { answer = Ok (record { reached = reached; taken = taken }); heights = heights } =
           sym J.rest ∙ rw (drop_of_length-le spans {i = at} h) (judge_none (first + at) reached taken heights) in
           record { answer = rw all refl; measured = rw all refl; records_zero = J.records_zero; work_zero = J.work_zero }
 
@@ -119,11 +109,11 @@ module _ (S : Script) (records work : ℕ) where
         here : drop at spans ≡ span ∷ drop (suc at) spans
         here = chunk_next spans at h ∙ ap (λ (s : Span). s ∷ drop (suc at) spans) is
 
-        pub judging_fails : {a : Answer} → judge_chunk S span records work ≡ fails a
+        pub judging_fails : {a : Refusal} → judge_chunk S span records work ≡ fails a
             → {heights' r' w' : List ℕ} → heights' ≡ heights → r' ≡ replicate records 0 → w' ≡ replicate work 0
-            → Judges S records work spans first before (Refused (first + at) a) heights' r' w'
+            → Judges S records work spans first before (Err (record { chunk = first + at; refusal = a })) heights' r' w'
         judging_fails {a} e same z v =
-            let all : judge_all S records work spans first 0 0 before ≡ record { answer = Refused (first + at) a; heights = heights } =
+            let all : judge_all S records work spans first 0 0 before ≡ record { answer = Err (record { chunk = first + at; refusal = a }); heights = heights } =
             sym J.rest ∙ rw here (judge_fails span (drop (suc at) spans) (first + at) reached taken heights e) in
             record { answer = rw all refl; measured = same ∙ rw all refl; records_zero = z; work_zero = v }
 

@@ -2,7 +2,7 @@
 use mathlib.Core.Bool.{Bool, true, false, cond}
 use mathlib.Core.List.{List, [], ◌∷◌, ◌++◌, append-nil}
 use mathlib.Core.Option.{none, some}
-use mathlib.Core.Path.{◌≡◌, refl, sym, ap, ◌∙◌, subst}
+use mathlib.Core.Path.{◌≡◌, refl, sym, ap, ◌∙◌}
 use Prim.Native.Nat.{ℕ, ◌+◌, ◌-◌, ◌*◌, ◌≤◌, ◌<◌}
 use native.Mathlib.Decide.{dec_lt}
 use native.Mathlib.Omega.{arith}
@@ -10,22 +10,19 @@ use borrow.Author.Tests.{lt-ltb, le-ltb}
 use lib.ListN.{length, get_or, set, take, drop, replicate, length-replicate, length-append, length-drop, get_or-append}
 use lib.Seq.{drop-length, ext_get_or, get_or-append-add, get_or-drop}
 use Rattle.opening.specs.declared.Room.{Room}
-use Rattle.opening.specs.declared.Opened.{Opened}
-use Rattle.opening.specs.declared.Opened.TheVariants.{Refused, Ready as Opened-Ready}
-use Rattle.opening.specs.Opens.{Readies, Refuses, OpenedAs}
+use Rattle.opening.specs.Opens.{Readies}
 use Rattle.code.specs.Layout.{tag_at}
 use Rattle.code.specs.Width.{width_of}
 use Rattle.listing.proofs.Before.{before_start, before_stop, before_few}
-use Rattle.opening.specs.Ready.{Listable, Ready, Marked}
+use Rattle.opening.specs.Ready.{Listable, Ready}
 use Rattle.opening.specs.Records.{keys, laid}
 use Rattle.opening.proofs.Kept.{few_targets}
 use Rattle.opening.proofs.Targets.{keys_rise, few_keys}
 use Rattle.order.specs.Order.{Rising}
 use Rattle.pools.specs.Sizes.{max_code}
 use Rattle.pools.specs.Good.{max_targets}
-use Rattle.answer.specs.declared.Answer.{Answer}
-use Rattle.answer.specs.declared.Outcome.{Outcome}
-use Rattle.answer.specs.declared.Outcome.TheVariants.{Passed, Refused as Failed}
+use Rattle.answer.specs.declared.Refusal.{Refusal}
+use Rattle.std.specs.Prelude.{Result, Ok, Err}
 use Rattle.answer.specs.Answer.{told, unless}
 use Rattle.demand.proofs.Demand.{Height, above, within, within_or_above}
 use Rattle.answer.proofs.Apart.{zero≢one}
@@ -40,10 +37,8 @@ use Rattle.machine.specs.Walk.{stops}
 use Rattle.words.specs.Stack.{Clear}
 use Rattle.walk.specs.declared.Counts.{Counts}
 use Rattle.walk.specs.declared.Hand.{Hand}
-use Rattle.walk.specs.declared.Turn.{Turn}
-use Rattle.walk.specs.declared.Turn.TheVariants.{Next, Done, Refused as Stopped}
 use Rattle.walk.specs.Ends.{zeroed, Abandoned, Closed}
-use Rattle.walk.specs.Turn.{room_span, turn_of, AtItem, GoesOn, Ends, Stops, ItemTaken}
+use Rattle.walk.specs.Turn.{room_span, turn_of, AtItem, GoesOn, Ends}
 use Rattle.walk.specs.Hand.{first_hand}
 use Rattle.walk.proofs.Chunks.{begins, goes, last_fit, Few, few, ended, refuses_so}
 use Rattle.walk.proofs.Moment.{fit, small}
@@ -72,9 +67,6 @@ cleared_all words used l z =
             let same : length (replicate {A = ℕ} used 0) + (i - used) ≡ i = omega (arith, length-replicate {A = ℕ} used 0) in
             let back : used + (i - used) ≡ i = omega arith in
             (rw same at (get_or-append-add (replicate used 0) (drop used words) (i - used) 0)) ∙ get_or-drop used words (i - used) 0 ∙ rw back (z i (omega arith))
-
-pub all_cleared : (words : List ℕ) {words' : List ℕ} → words' ≡ zeroed (length words) words → words' ≡ replicate (length words) 0
-all_cleared words e = e ∙ ap (λ (rest : List ℕ). replicate (length words) 0 ++ rest) (drop-length words) ∙ append-nil (replicate (length words) 0)
 
 pub zero_words : (words : List ℕ) → Clear words 0 → words ≡ replicate (length words) 0
 zero_words words c = cleared_all words 0 (omega arith) (λ i h. c.clear i (omega arith))
@@ -106,7 +98,7 @@ few_edges S R span B = go (dec_lt span.entry span.end)
         let start = (inside S span (entry_starts S span B h)).start in
         let most = sum_most (degree S) (chunk_starts S span) (λ p m.
         let s = (before_start width_of S.code span.end start m).start in
-        omega (arith, few_targets S.code S.pools.switches S.pools.cases S.pools.ranges L s, at_most_one (falls (tag_at S.code p)))) in
+        omega (arith, few_targets S L s, at_most_one (falls (tag_at S.code p)))) in
         omega (arith, before_few width_of S.code span.end span.entry, L.small)
     go (no h) =
         let none : chunk_starts S span ≡ [] = before_stop width_of S.code span.end span.entry (rw (le-ltb span.entry span.end (omega arith)) refl) in
@@ -114,32 +106,13 @@ few_edges S R span B = go (dec_lt span.entry span.end)
 
 -- ---- a chunk opened
 
--- what opening came to
-module _ (S : Script) (span : Span) (words rooms : ℕ) (opened : Opened) (records work : List ℕ) (o : OpenedAs S span words rooms opened records work) where
-  pub opens_refused : {a : Answer} → opened ≡ Refused a → Refuses S span words rooms a records work
-  opens_refused e = subst (λ (x : Opened). OpenedAs S span words rooms x records work) e o
-
-  pub opens_ready : {room : Room} → opened ≡ Opened-Ready room → Readies S span words rooms room records work
-  opens_ready e = subst (λ (x : Opened). OpenedAs S span words rooms x records work) e o
-
--- what taking an item came to
-module _ (S : Script) (room : Room) (h : Hand) (records work : List ℕ) (t : Turn) (records' work' : List ℕ) (k : ItemTaken S room h records work t records' work') where
-  pub took_next : {next : Hand} → t ≡ Next next → GoesOn S room (turn_of S room h records work) next records' work'
-  took_next e = subst (λ (x : Turn). ItemTaken S room h records work x records' work') e k
-
-  pub took_done : {last : Counts} → t ≡ Done last → Ends S room (turn_of S room h records work) last records' work'
-  took_done e = subst (λ (x : Turn). ItemTaken S room h records work x records' work') e k
-
-  pub took_refused : {a : Answer} → t ≡ Stopped a → Stops S room (turn_of S room h records work) a records work records' work'
-  took_refused e = subst (λ (x : Turn). ItemTaken S room h records work x records' work') e k
-
 -- the walk has come to an item, in so many words of records and of work
-pub record Walking (S : Script) (marks : List ℕ) (words rooms : ℕ) (room : Room) (h : Hand) (records work : List ℕ) : Type 0 where
-  pub at : AtItem S room h marks records work
+pub record Walking (S : Script) (words rooms : ℕ) (room : Room) (h : Hand) (records work : List ℕ) : Type 0 where
+  pub at : AtItem S room h records work
   pub records_long : length records ≡ words
   pub work_long : length work ≡ rooms
 
-module _ (S : Script) (R : Ready S) (marks : List ℕ) (M : Marked marks S.code) (words rooms : ℕ) where
+module _ (S : Script) (R : Ready S) (words rooms : ℕ) where
   module _ {entry end : ℕ} {room : Room} {records work : List ℕ}
       (O : Readies S (record { entry = entry; end = end; declared = 0 }) words rooms room records work) where
     pub records_long : length records ≡ words
@@ -183,11 +156,9 @@ module _ (S : Script) (R : Ready S) (marks : List ℕ) (M : Marked marks S.code)
     pub opened_keys : room.keys ≤ length records
     opened_keys = omega (arith, keyed, few_keys S (room_span room), before.records_room, records_long)
 
-    first_walking : {h : Hand} → h ≡ first_hand (take room.keys records) room.entry → Walking S marks words rooms room h records work
+    first_walking : {h : Hand} → h ≡ first_hand (take room.keys records) room.entry → Walking S words rooms room h records work
     first_walking {h} e = record {
       at = record {
-        ready = R;
-        marked = M;
         before = rw (records_long, work_long) before;
         base = based;
         keyed = keyed;
@@ -199,7 +170,7 @@ module _ (S : Script) (R : Ready S) (marks : List ℕ) (M : Marked marks S.code)
     }
 
     -- the same, in the words' own lengths
-    pub first_walking_here : {h : Hand} → h ≡ first_hand (take room.keys records) room.entry → Walking S marks (length records) (length work) room h records work
+    pub first_walking_here : {h : Hand} → h ≡ first_hand (take room.keys records) room.entry → Walking S (length records) (length work) room h records work
     first_walking_here e = record { at = (first_walking e).at; records_long = refl; work_long = refl }
 
     pub judged_here : (declared : ℕ) → judge_chunk S (redeclared (room_span room) declared) words rooms
@@ -208,24 +179,24 @@ module _ (S : Script) (R : Ready S) (marks : List ℕ) (M : Marked marks S.code)
 
 -- ---- one item after the other
 
-module _ {S : Script} {marks : List ℕ} {words rooms : ℕ} where
-  module _ {room : Room} {h : Hand} {records work : List ℕ} (W : Walking S marks words rooms room h records work) where
+module _ {S : Script} {words rooms : ℕ} where
+  module _ {room : Room} {h : Hand} {records work : List ℕ} (W : Walking S words rooms room h records work) where
     pub lent : BeforeWalk S (room_span room) words rooms
     lent = rw (W.records_long, W.work_long) at W.at.before
 
     pub walking_on : {next : Hand} {records' work' : List ℕ} → GoesOn S room (turn_of S room h records work) next records' work'
-        → length records' ≡ words → length work' ≡ rooms → Walking S marks words rooms room next records' work' × (next.taken ≡ h.taken + 1)
+        → length records' ≡ words → length work' ≡ rooms → Walking S words rooms room next records' work' × (next.counts.taken ≡ h.counts.taken + 1)
     walking_on {next} {records'} {work'} g l m =
         let on = goes S room words rooms lent h records work W.records_long W.at.going next records' work' l g in (
           record {
-            at = record { ready = W.at.ready; marked = W.at.marked; before = rw (l, m) lent; base = W.at.base; keyed = W.at.keyed; going = on.0 };
+            at = record { before = rw (l, m) lent; base = W.at.base; keyed = W.at.keyed; going = on.0 };
             records_long = l;
             work_long = m;
           },
           on.1,
         )
 
-    pub few_taken : h.taken < rooms
+    pub few_taken : h.counts.taken < rooms
     few_taken =
         let s = small S room records work W.at.before h W.at.going in
         omega (arith, s.waits, s.work_room, W.work_long)
@@ -251,7 +222,7 @@ module _ {S : Script} {marks : List ℕ} {words rooms : ℕ} where
               ∙ ap (λ (n : ℕ). replicate n 0) W.work_long,
         )
 
-    pub stopped_judged : {a : Answer} → turn_of S room h records work ≡ stops a → (declared : ℕ) → judge_chunk S (redeclared (room_span room) declared) words rooms ≡ fails a
+    pub stopped_judged : {a : Refusal} → turn_of S room h records work ≡ stops a → (declared : ℕ) → judge_chunk S (redeclared (room_span room) declared) words rooms ≡ fails a
     stopped_judged e = refuses_so S room words rooms lent h records work W.records_long W.at.going e
 
     -- none is left
@@ -273,14 +244,14 @@ module _ {S : Script} {marks : List ℕ} {words rooms : ℕ} where
 
 -- ---- a chunk closed
 
-module _ {used height declared chunk : ℕ} {heights records : List ℕ} {r : Outcome} {heights' records' : List ℕ}
+module _ {used height declared chunk : ℕ} {heights records : List ℕ} {r : Result (Unit {0}) Refusal} {heights' records' : List ℕ}
     (k : Closed used height declared chunk heights records r heights' records') where
   -- it passes, where the height is not above the declared one
   pub record ClosedWell : Type 0 where
     pub low : height_test height declared ≡ none
     pub stored : heights' ≡ set heights chunk height
 
-  pub closed_well : r ≡ Passed → ClosedWell
+  pub closed_well : r ≡ Ok tt → ClosedWell
   unfolding told
   closed_well e = go (within_or_above height declared)
     where
@@ -292,11 +263,11 @@ module _ {used height declared chunk : ℕ} {heights records : List ℕ} {r : Ou
       go (within l q) = record { low = q; stored = k.stored ∙ rw (le-ltb declared height l) refl }
 
   -- it is refused, where it is above
-  pub record ClosedAbove (a : Answer) : Type 0 where
+  pub record ClosedAbove (a : Refusal) : Type 0 where
     pub high : height_test height declared ≡ some a
     pub kept : heights' ≡ heights
 
-  pub closed_above : {a : Answer} → r ≡ Failed a → ClosedAbove a
+  pub closed_above : {a : Refusal} → r ≡ Err a → ClosedAbove a
   unfolding told
   closed_above {a} e = go (within_or_above height declared)
     where

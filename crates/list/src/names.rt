@@ -1,64 +1,88 @@
 // The name of a tag.
-ghost use Rattle.std.specs.Prelude.{◌≡◌, ◌+◌, ◌≤◌, length, drop};
+ghost use Rattle.std.specs.Prelude.{◌≡◌, ◌≤◌, length};
 ghost use Rattle.list.specs.Names.{name_of};
-ghost use Rattle.list.specs.Text.{Puts};
-ghost use Rattle.list.specs.Words.{word_at, words, first_word};
 
-use crate::text;
+use code::tag;
 
-// The first space from an offset on, or the text's end.
-fn space_from(text: &[u8], from: usize) -> usize
-    requires { from ≤ length text.now }
-    ensures { result ≡ from + length (first_word (drop from text.now)) }
+// The name of a tag, and none of a byte that is no tag. A name has at most 20 letters.
+#[tactic(auto, using(crate::proofs::Named::no_name), unfolding(crate::specs::Names::name_in, crate::specs::Text::letters))]
+pub fn name_of(tag: u8) -> &'static str
+    ensures value { result.now ≡ name_of tag }
+    ensures len { length result.now ≤ 20 }
 {
-    let mut i = from;
-    while i < text.len() {
-        if text[i] == b' ' {
-            return i;
-        }
-        i += 1;
+    match tag {
+        tag::UNIT => "UNIT",
+        tag::FALSE => "FALSE",
+        tag::TRUE => "TRUE",
+        tag::POP => "POP",
+        tag::TICK => "TICK",
+        tag::CHECKPOINT => "CHECKPOINT",
+        tag::RETURN => "RETURN",
+        tag::THROW => "THROW",
+        tag::ITER_INIT => "ITER_INIT",
+        tag::ITER_DROP => "ITER_DROP",
+        tag::INTERPOLATE_START => "INTERPOLATE_START",
+        tag::INTERPOLATE_APPEND => "INTERPOLATE_APPEND",
+        tag::INTERPOLATE_END => "INTERPOLATE_END",
+        tag::POP_HANDLER => "POP_HANDLER",
+        tag::IS_SHARED => "IS_SHARED",
+        tag::MAKE_FN_PTR => "MAKE_FN_PTR",
+        tag::LOAD_THIS => "LOAD_THIS",
+        tag::LOAD_THIS_SHARED => "LOAD_THIS_SHARED",
+        tag::REQUIRE_THIS => "REQUIRE_THIS",
+        tag::ASSIGN_THIS => "ASSIGN_THIS",
+        tag::ROTATE => "ROTATE",
+        tag::CURRY => "CURRY",
+        tag::CALL_FN_PTR => "CALL_FN_PTR",
+        tag::CALL_FN_PTR_CAPTURE => "CALL_FN_PTR_CAPTURE",
+        tag::CALL_FN_PTR_METHOD => "CALL_FN_PTR_METHOD",
+        tag::CALL_FN_PTR_ON_THIS => "CALL_FN_PTR_ON_THIS",
+        tag::UNWIND_TO => "UNWIND_TO",
+        tag::STATEMENT => "STATEMENT",
+        tag::SHARE => "SHARE",
+        tag::SHARE_NAMED => "SHARE_NAMED",
+        tag::LOAD_SHARED => "LOAD_SHARED",
+        tag::LOAD_SHARED_NAMED => "LOAD_SHARED_NAMED",
+        tag::STORE_SHARED => "STORE_SHARED",
+        tag::ASSIGN_THIS_OP => "ASSIGN_THIS_OP",
+        tag::MAKE_CLOSURE => "MAKE_CLOSURE",
+        tag::LOAD_CONST => "LOAD_CONST",
+        tag::LOAD_LOCAL => "LOAD_LOCAL",
+        tag::LOAD_NAMED => "LOAD_NAMED",
+        tag::STORE_LOCAL => "STORE_LOCAL",
+        tag::STORE_CONST => "STORE_CONST",
+        tag::DECLARE_LOCAL => "DECLARE_LOCAL",
+        tag::DECLARE_CONST => "DECLARE_CONST",
+        tag::DECLARE_GLOBAL_CONST => "DECLARE_GLOBAL_CONST",
+        tag::CHAIN => "CHAIN",
+        tag::MAKE_ARRAY => "MAKE_ARRAY",
+        tag::MAKE_MAP => "MAKE_MAP",
+        tag::CHECK_ARRAY_SIZE => "CHECK_ARRAY_SIZE",
+        tag::CHECK_MAP_SIZE => "CHECK_MAP_SIZE",
+        tag::SWITCH => "SWITCH",
+        tag::CUSTOM_SYNTAX => "CUSTOM_SYNTAX",
+        tag::ASSIGN_NAMED => "ASSIGN_NAMED",
+        tag::CALL => "CALL",
+        tag::CALL_THIS_REF => "CALL_THIS_REF",
+        tag::CALL_FN_PTR_ON_LOCAL => "CALL_FN_PTR_ON_LOCAL",
+        tag::CALL_FN_PTR_ON_NAMED => "CALL_FN_PTR_ON_NAMED",
+        tag::JUMP => "JUMP",
+        tag::JUMP_IF_TRUE => "JUMP_IF_TRUE",
+        tag::JUMP_IF_FALSE => "JUMP_IF_FALSE",
+        tag::SKIP_IF_NOT_UNIT => "SKIP_IF_NOT_UNIT",
+        tag::ITER_NEXT => "ITER_NEXT",
+        tag::PUSH_HANDLER => "PUSH_HANDLER",
+        tag::EXPORT_LOCAL => "EXPORT_LOCAL",
+        tag::EXPORT_NAMED => "EXPORT_NAMED",
+        tag::ASSIGN_LOCAL => "ASSIGN_LOCAL",
+        tag::ASSIGN_NAMED_OP => "ASSIGN_NAMED_OP",
+        tag::CALL_OP => "CALL_OP",
+        tag::CALL_LOCAL_REF => "CALL_LOCAL_REF",
+        tag::CALL_NAMED_REF => "CALL_NAMED_REF",
+        tag::ITER_NEXT_INDEXED => "ITER_NEXT_INDEXED",
+        tag::PUSH_HANDLER_VAR => "PUSH_HANDLER_VAR",
+        tag::ASSIGN_LOCAL_OP => "ASSIGN_LOCAL_OP",
+        tag::IMPORT => "IMPORT",
+        _ => "",
     }
-    i
-}
-
-// Where the word of a number starts, or the text's end where there are fewer words.
-fn word_start(text: &[u8], number: usize) -> usize
-    ensures upper_bound { result ≤ length text.now }
-    ensures text_value { drop result text.now ≡ words number text.now }
-{
-    let mut start = 0;
-    let mut i = 0;
-    while i < number {
-        start = space_from(text, start);
-        if start < text.len() {
-            start += 1;
-        }
-        i += 1;
-    }
-    start
-}
-
-// The word of a number, among words with a space behind each.
-fn put_word(line: &mut [u8], at: usize, text: &[u8], number: usize) -> usize
-    requires { at + length (word_at number text.now) ≤ length line.old }
-    ensures { Puts at (word_at number text.now) line.old line.new result }
-{
-    let start = word_start(text, number);
-    let end = space_from(text, start);
-    text::put_bytes(line, at, &text[start..end])
-}
-
-// The words are the names in the order of the tags, from 0 on. A byte that is no tag has an empty one. A name has at most 20
-// letters.
-pub fn put_name(line: &mut [u8], at: usize, tag: u8) -> usize
-    requires { at + 20 ≤ length line.old }
-    ensures puts { Puts at (name_of tag) line.old line.new result }
-    ensures upper_bound { result ≤ at + 20 }
-{
-    put_word(
-        line,
-        at,
-        b" UNIT FALSE TRUE POP TICK CHECKPOINT RETURN THROW ITER_INIT ITER_DROP INTERPOLATE_START INTERPOLATE_APPEND INTERPOLATE_END POP_HANDLER IS_SHARED MAKE_FN_PTR LOAD_THIS LOAD_THIS_SHARED REQUIRE_THIS ASSIGN_THIS ROTATE CURRY CALL_FN_PTR CALL_FN_PTR_CAPTURE CALL_FN_PTR_METHOD CALL_FN_PTR_ON_THIS UNWIND_TO STATEMENT SHARE SHARE_NAMED LOAD_SHARED LOAD_SHARED_NAMED STORE_SHARED ASSIGN_THIS_OP MAKE_CLOSURE LOAD_CONST LOAD_LOCAL LOAD_NAMED STORE_LOCAL STORE_CONST DECLARE_LOCAL DECLARE_CONST DECLARE_GLOBAL_CONST CHAIN MAKE_ARRAY MAKE_MAP CHECK_ARRAY_SIZE CHECK_MAP_SIZE SWITCH CUSTOM_SYNTAX ASSIGN_NAMED CALL CALL_THIS_REF CALL_FN_PTR_ON_LOCAL CALL_FN_PTR_ON_NAMED JUMP JUMP_IF_TRUE JUMP_IF_FALSE SKIP_IF_NOT_UNIT ITER_NEXT PUSH_HANDLER EXPORT_LOCAL EXPORT_NAMED ASSIGN_LOCAL ASSIGN_NAMED_OP CALL_OP CALL_LOCAL_REF CALL_NAMED_REF ITER_NEXT_INDEXED PUSH_HANDLER_VAR ASSIGN_LOCAL_OP        IMPORT",
-        tag as usize,
-    )
 }

@@ -1,51 +1,31 @@
-// Text put into a lent line, one piece behind the other. Each function answers the offset behind its piece.
-ghost use Rattle.std.specs.Prelude.{[], ◌∷◌, ◌++◌, ◌+◌, ◌≤◌, ◌<◌, length};
-ghost use Rattle.list.specs.Text.{Puts, decimal, space};
+// A line of text, and the numbers that are put behind it.
+ghost use Rattle.std.specs.Prelude.{◌≡◌, ◌∷◌, ◌++◌, ◌+◌, ◌≤◌};
+ghost use Rattle.arrayvec.specs.ArrayString.{array_string_len};
+ghost use Rattle.list.specs.Text.{decimal, space};
 
-pub fn put_byte(line: &mut [u8], at: usize, byte: u8) -> usize
-    requires { at < length line.old }
-    ensures { Puts at (byte ∷ []) line.old line.new result }
-{
-    line[at] = byte;
-    at + 1
-}
+use arrayvec::ArrayString;
+use itoa::Buffer;
 
-pub fn put_bytes(line: &mut [u8], at: usize, bytes: &[u8]) -> usize
-    requires { at + length bytes.now ≤ length line.old }
-    ensures { Puts at bytes.now line.old line.new result }
-{
-    let mut i = 0;
-    while i < bytes.len() {
-        line[at + i] = bytes[i];
-        i += 1;
-    }
-    at + i
-}
+// A line, with room for any: an offset, a name, a width and three operands of at most 20 bytes each, the spaces and the
+// line end.
+pub type Line = ArrayString<128>;
 
-// A number has at most 20 digits. They are found from the last to the first.
-pub fn put_number(line: &mut [u8], at: usize, number: u64) -> usize
-    requires { at + 20 ≤ length line.old }
-    ensures puts { Puts at (decimal number) line.old line.new result }
-    ensures upper_bound { result ≤ at + 20 }
+// A number has at most 20 digits.
+#[tactic(auto, using(crate::proofs::Decimals::decimal_written))]
+pub fn put_number(line: &mut Line, number: usize)
+    requires { array_string_len line.old + 20 ≤ 128 }
+    ensures puts { line.new.bytes ≡ line.old.bytes ++ decimal number }
+    ensures upper_bound { array_string_len line.new ≤ array_string_len line.old + 20 }
 {
-    let mut digits = [0u8; 20];
-    let mut first = 19;
-    let mut rest = number;
-    while 10 <= rest {
-        digits[first] = b'0' + (rest % 10) as u8;
-        rest /= 10;
-        first -= 1;
-    }
-    digits[first] = b'0' + rest as u8;
-    put_bytes(line, at, &digits[first..])
+    line.push_str(Buffer::new().format(number));
 }
 
 // A number with a space before it.
-pub fn put_field(line: &mut [u8], at: usize, number: u64) -> usize
-    requires { at + 21 ≤ length line.old }
-    ensures puts { Puts at (space ∷ decimal number) line.old line.new result }
-    ensures upper_bound { result ≤ at + 21 }
+pub fn put_field(line: &mut Line, number: usize)
+    requires { array_string_len line.old + 21 ≤ 128 }
+    ensures puts { line.new.bytes ≡ line.old.bytes ++ space ∷ decimal number }
+    ensures upper_bound { array_string_len line.new ≤ array_string_len line.old + 21 }
 {
-    let digits = put_byte(line, at, b' ');
-    put_number(line, digits, number)
+    line.push_str(" ");
+    put_number(line, number);
 }

@@ -2,20 +2,22 @@
 use mathlib.Core.Bool.{cond}
 use mathlib.Core.Path.{◌≡◌, refl, sym, ap, ◌∙◌}
 use lib.Dec.{eqb}
+use Rattle.std.specs.Prelude.{Result, Ok, Err}
 use Rattle.listing.specs.Listing.{ListedTold, item_told}
-use Rattle.listing.specs.declared.Listed.{Listed}
-use Rattle.listing.specs.declared.Listed.TheVariants.{Instruction, End, NoWidth}
+use Rattle.listing.specs.declared.Item.{Item}
+use Rattle.listing.specs.declared.Ending.{Ending}
+use Rattle.listing.specs.declared.Ending.TheVariants.{End, NoWidth}
 
-back : ListedTold → Listed
+back : ListedTold → Result Item Ending
 back t =
-    cond (eqb t.number 0) (Instruction (record { at = t.at; tag = t.tag; width = t.width; next = t.next }))
-    (cond (eqb t.number 1) End (NoWidth t.at))
+    cond (eqb t.number 0) (Ok (record { at = t.at; tag = t.tag; width = t.width; next = t.next }))
+    (Err (cond (eqb t.number 1) End (NoWidth t.at)))
 
-same : (l : Listed) → back (item_told l) ≡ l
+same : (l : Result Item Ending) → back (item_told l) ≡ l
 unfolding item_told back
-same (Instruction i) = refl
-same End = refl
-same (NoWidth at) = refl
+same (Ok i) = refl
+same (Err End) = refl
+same (Err (NoWidth at)) = refl
 
-pub one_listed : (a b : Listed) → item_told a ≡ item_told b → a ≡ b
+pub one_listed : (a b : Result Item Ending) → item_told a ≡ item_told b → a ≡ b
 one_listed a b e = sym (same a) ∙ ap back e ∙ same b

@@ -4,9 +4,9 @@
 #![tactic(auto)]
 
 ghost use Rattle.std.specs.Prelude.{◌≡◌};
-ghost use Rattle.listing.specs.Listing.{item_told, listed_at};
+ghost use Rattle.listing.specs.Listing.{listed_at};
 
-use code::Width;
+use code::NoWidth;
 
 // An instruction: its offset, tag and width, and the offset after it.
 #[derive(Clone, Copy)]
@@ -17,28 +17,26 @@ pub struct Item {
     pub next: usize,
 }
 
-// What stands at an offset: an instruction, the code's end, or a byte without a width, with its offset.
-#[derive(Clone, Copy)]
-pub enum Listed {
-    Instruction(Item),
+// Why no instruction stands at an offset: the code's end, or a byte without a width, with its offset.
+#[derive(Clone, Copy, PartialEq, Eq)]
+pub enum Ending {
     End,
     NoWidth(usize),
 }
 
 // What stands at an offset.
-pub fn item_at(code: &[u8], at: usize) -> Listed
-    ensures { item_told result ≡ listed_at code.now at }
+#[tactic(auto, using(crate::proofs::Items::listed_there, crate::proofs::Items::listed_end, crate::proofs::Items::listed_none, code::proofs::Widths::wide))]
+pub fn item_at(code: &[u8], at: usize) -> Result<Item, Ending>
+    ensures { result ≡ listed_at code.now at }
 {
-    let width = code::width_at(code, at);
-    match width {
-        Width::Of(size) => Listed::Instruction(Item {
-            at,
-            tag: code[at],
-            width: size,
-            next: at + size,
-        }),
-        Width::NoByte => Listed::End,
-        Width::UnknownTag => Listed::NoWidth(at),
-        Width::CutOff => Listed::NoWidth(at),
-    }
+    let width = code::width_at(code, at).map_err(|why| match why {
+        NoWidth::NoByte => Ending::End,
+        NoWidth::UnknownTag | NoWidth::CutOff => Ending::NoWidth(at),
+    })?;
+    Ok(Item {
+        at,
+        tag: code[at],
+        width,
+        next: at + width,
+    })
 }

@@ -11,11 +11,7 @@ ghost use Rattle.marks.specs.Places.{bit_at, is_one};
 pub fn clear(marks: &mut [u64])
     ensures { marks.new ≡ replicate (length marks.old) 0 }
 {
-    let mut cleared = 0;
-    while cleared < marks.len() {
-        marks[cleared] = 0;
-        cleared += 1;
-    }
+    marks.fill(0);
 }
 
 // Sets the bit of a place, which has to lie within the words. Every other bit stays.
@@ -30,11 +26,9 @@ pub fn set_start(marks: &mut [u64], at: usize)
 pub fn starts_at(marks: &[u64], at: usize) -> bool
     ensures { result ≡ is_one (bit_at marks.now at) }
 {
-    let word = at / 64;
-    if word >= marks.len() {
-        return false;
-    }
-    (marks[word] >> (at % 64)) & 1 == 1
+    marks
+        .get(at / 64)
+        .is_some_and(|word| (word >> (at % 64)) & 1 == 1)
 }
 
 // How many bits are set, in marks where that number fits a `u64`.
@@ -42,11 +36,5 @@ pub fn count(marks: &[u64]) -> u64
     requires { total marks.now < 2 ^ 64 }
     ensures { result ≡ total marks.now }
 {
-    let mut sum: u64 = 0;
-    let mut counted = 0;
-    while counted < marks.len() {
-        sum += u64::count_ones(marks[counted]) as u64;
-        counted += 1;
-    }
-    sum
+    marks.iter().map(|word| u64::from(word.count_ones())).sum()
 }

@@ -4,4 +4,6 @@ pub mod Storing
 pub mod Kept
 pub mod Targets
 pub mod Tests
+pub mod ByCode
+pub mod Passed
 pub mod Ways

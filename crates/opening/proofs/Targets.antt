@@ -27,7 +27,7 @@ length_all S (p ∷ ps) = length-append (targets S p) (all_targets S ps) ∙ ap 
 
 -- where all targets have room behind what is kept, all are kept
 keep_all_lem : (S : Script) (words : ℕ) (kept ps : List ℕ) → length kept + sum_of (λ p. length (targets S p)) ps ≤ words
-    → keep_all S.code S.pools.switches S.pools.cases S.pools.ranges words kept ps ≡ kept ++ all_targets S ps
+    → keep_all S words kept ps ≡ kept ++ all_targets S ps
 unfolding keep_all all_targets sum_of
 keep_all_lem S words kept [] h = sym (append-nil kept)
 keep_all_lem S words kept (p ∷ ps) h =
@@ -47,7 +47,7 @@ module _ (S : Script) (span : Span) where
 
   -- what listing keeps is what is named, where so many words have room for it
   pub all_kept_named : (words : ℕ) → 1 + T S span ≤ words
-      → keep_all S.code S.pools.switches S.pools.cases S.pools.ranges words (opening words span.entry) (chunk_starts S span) ≡ named S span
+      → keep_all S words (opening words span.entry) (chunk_starts S span) ≡ named S span
   unfolding T opening
   all_kept_named words h =
       let room : leb 1 words ≡ true = le-leb 1 words (omega arith) in

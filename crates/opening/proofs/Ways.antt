@@ -10,7 +10,7 @@ use Rattle.order.specs.Order.{in_order, Ordered}
 use Rattle.order.proofs.Laws.{no_longer}
 use Rattle.answer.specs.Answer.{unless}
 use Rattle.demand.specs.Chunk.{span_test, room_test, open_test}
-use Rattle.answer.specs.declared.Answer.{Answer}
+use Rattle.answer.specs.declared.Refusal.{Refusal}
 use Rattle.demand.specs.Span.{Span, InCode, chunk_starts, T, E}
 use Rattle.rules.specs.Edges.{degree}
 use Rattle.rules.specs.Script.{Script}
@@ -24,18 +24,21 @@ use Rattle.opening.proofs.Tests.{Fits, room_passed}
 
 -- ---- the order
 
-pub keys_laid : (count : ℕ) (records work : List ℕ) (r : ℕ) {records' work' : List ℕ} → count ≤ length records → count ≤ length work
+pub keys_laid : (count : ℕ) (records work : List ℕ) (r : ℕ) {sorted work' : List ℕ} → count ≤ length records → count ≤ length work
     → drop count records ≡ replicate (length records - count) 0 → work ≡ replicate (length work) 0
-    → Ordered count records work r records' work' → KeysLaid count records work r records' work'
+    → Ordered (take count records) work r sorted work' → KeysLaid count records work r (sorted ++ drop count records) work'
 unfolding fronted
-keys_laid count records work r a b tail zero o = record {
+keys_laid count records work r {sorted} a b tail zero o = record {
   counted = o.count;
-  in_front = o.keys ∙ rw (tail, append_assoc, replicate-append-replicate, behind) refl;
-  cleared = o.spare ∙ ap (λ (l : List ℕ). replicate count 0 ++ drop count l) zero ∙ rw (drop_zeros count (length work), replicate-append-replicate, all) refl;
+  in_front = rw (o.keys, tail, append_assoc, long, replicate-append-replicate, behind) refl;
+  cleared = o.spare ∙ rw long (ap (λ (l : List ℕ). replicate count 0 ++ drop count l) zero ∙ rw (drop_zeros count (length work), replicate-append-replicate, all) refl);
 }
   where
+    long : length (take count records) ≡ count
+    long = length-take-le count records a
+
     few : length (in_order (take count records)) ≤ count
-    few = omega (arith, no_longer (take count records), length-take-le count records a)
+    few = omega (arith, no_longer (take count records), long)
 
     behind : count - r + (length records - count) ≡ length records - length (in_order (take count records))
     behind = omega (arith, few, o.count)
@@ -46,15 +49,15 @@ keys_laid count records work r a b tail zero o = record {
 -- ---- the ways out
 
 module _ (S : Script) (span : Span) where
-  pub refused_by_span : {answer : Answer} (records work : List ℕ) → span_test S.code span.entry span.end ≡ some answer
+  pub refused_by_span : {answer : Refusal} (records work : List ℕ) → span_test S.code span.entry span.end ≡ some answer
       → records ≡ replicate (length records) 0 → work ≡ replicate (length work) 0 → Refuses S span (length records) (length work) answer records work
   unfolding open_test unless
   refused_by_span records work e r w = record { tested = rw e; records_cleared = r; work_cleared = w }
 
   module _ {lent : ℕ} {listed : Tally} {records : List ℕ}
-      (A : AllListed S.code S.pools.switches S.pools.cases S.pools.ranges span.entry span.end lent listed records) where
+      (A : AllListed S span.entry span.end lent listed records) where
     abbrev front : List ℕ
-    front = keep_all S.code S.pools.switches S.pools.cases S.pools.ranges lent (opening lent span.entry) (chunk_starts S span)
+    front = keep_all S lent (opening lent span.entry) (chunk_starts S span)
 
     counts_targets : listed.targets ≡ T S span
     unfolding T
@@ -70,11 +73,7 @@ module _ (S : Script) (span : Span) where
     long : length records ≡ lent
     long = ap length A.kept ∙ length_fronted lent front front_fits
 
-    -- where the lent words have room for them, all named places are in front
-    pub named_in_front : 1 + T S span ≤ lent → records ≡ fronted lent (named S span)
-    named_in_front h = A.kept ∙ ap (fronted lent) (all_kept_named S span lent h)
-
-    pub refused_for_room : {answer : Answer} {records' : List ℕ} (work : List ℕ) → span_test S.code span.entry span.end ≡ none
+    pub refused_for_room : {answer : Refusal} {records' : List ℕ} (work : List ℕ) → span_test S.code span.entry span.end ≡ none
         → room_test listed.targets listed.edges (length records) (length work) ≡ some answer
         → records' ≡ replicate listed.stored 0 ++ drop listed.stored records → work ≡ replicate (length work) 0
         → Refuses S span lent (length work) answer records' work

@@ -3,11 +3,11 @@
 -- outgoing edges".
 use Rattle.std.specs.Prelude.{Bool, cond, List, [], ◌∷◌, ◌++◌, ◌≡◌, ℕ, ◌+◌, ◌-◌, ◌^◌, ◌≤◌, ◌<◌, leb, length, replicate}
 use Rattle.std.proofs.lemmas.List.Edits.{sets}
-use Rattle.code.specs.Layout.{tag_at}
 use Rattle.code.specs.Width.{width_of}
 use Rattle.listing.specs.Starts.{starts_before}
 use Rattle.machine.specs.Lists.{sum_of}
-use Rattle.rules.specs.Edges.{falls, targets_of}
+use Rattle.rules.specs.Edges.{falls, targets}
+use Rattle.rules.specs.Script.{Script, tag_of}
 use Rattle.opening.specs.declared.Tally.{Tally}
 
 -- do so many words more have room behind those that are kept?
@@ -38,25 +38,23 @@ pub record EntryStored (entry words r : ℕ) (records' : List ℕ) : Type 0 wher
   pub stored : r ≡ length (opening words entry)
   pub kept : records' ≡ fronted words (opening words entry)
 
-module _ (code switches cases ranges : List ℕ) where
-  abbrev pub targets_at : ℕ → List ℕ
-  targets_at p = targets_of code switches cases ranges p
-
+module _ (S : Script) where
+  -- 1 where control falls through the instruction at a place
   abbrev pub fall_at : ℕ → ℕ
-  fall_at p = cond (falls (tag_at code p)) 1 0
+  fall_at p = cond (falls (tag_of S p)) 1 0
 
   -- what is kept after the instructions at these places, in so many words
   unfoldable pub keep_all : (words : ℕ) → (kept : List ℕ) → List ℕ → List ℕ
   keep_all words kept [] = kept
   keep_all words kept (p ∷ ps) =
-      keep_all words (cond (room_for (length kept) (length (targets_at p)) words) (kept ++ targets_at p) kept) ps
+      keep_all words (cond (room_for (length kept) (length (targets S p)) words) (kept ++ targets S p) kept) ps
 
   -- all instructions from an entry to an end, and far fewer targets and edges than 64 bits can count
   pub record AllListed (entry end words : ℕ) (r : Tally) (records' : List ℕ) : Type 0 where
-    pub targets_counted : r.targets ≡ sum_of (λ p. length (targets_at p)) (starts_before width_of code end entry)
-    pub edges_counted : r.edges ≡ sum_of (λ p. length (targets_at p) + fall_at p) (starts_before width_of code end entry)
-    pub stored : r.stored ≡ length (keep_all words (opening words entry) (starts_before width_of code end entry))
-    pub kept : records' ≡ fronted words (keep_all words (opening words entry) (starts_before width_of code end entry))
+    pub targets_counted : r.targets ≡ sum_of (λ p. length (targets S p)) (starts_before width_of S.code end entry)
+    pub edges_counted : r.edges ≡ sum_of (λ p. length (targets S p) + fall_at p) (starts_before width_of S.code end entry)
+    pub stored : r.stored ≡ length (keep_all words (opening words entry) (starts_before width_of S.code end entry))
+    pub kept : records' ≡ fronted words (keep_all words (opening words entry) (starts_before width_of S.code end entry))
     pub within : r.stored ≤ words
     pub few_targets : r.targets < 2 ^ 40
     pub few_edges : r.edges < 2 ^ 40

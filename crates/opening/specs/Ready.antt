@@ -1,11 +1,12 @@
 -- What a script is that passed everything before the chunks, as far as a chunk looks at it. Document 01, "Order of the
 -- tests": what stands before "chunks upward" there; "Flat pools and sizes": the limits of code, cases and ranges.
 use Rattle.std.specs.Prelude.{List, ◌≡◌, ℕ, ◌≤◌, length}
+use Rattle.code.specs.Layout.{among}
 use Rattle.code.specs.Width.{width_of}
 use Rattle.demand.specs.Span.{Span}
 use Rattle.listing.specs.Listing.{stop_by}
 use Rattle.listing.specs.Starts.{Start, starts}
-use Rattle.marks.specs.Places.{Holds}
+use Rattle.marks.specs.Places.{Holds, bit_at, is_one}
 use Rattle.pools.specs.Good.{ChainsWithin, SwitchesWithin}
 use Rattle.pools.specs.Pools.{cases_in}
 use Rattle.pools.specs.Sizes.{max_code, max_entries}
@@ -36,3 +37,8 @@ pub record Ready (S : Script) : Type 0 where
 -- The marks hold the starts of the code, and nothing else.
 abbrev pub Marked : List ℕ → List ℕ → Type 0
 Marked marks code = Holds marks (starts code)
+
+-- The same as a fact that a type can keep, since there is one proof of it at most: the bit of a place tells whether an
+-- instruction starts there (`tells` and `marked` in proofs/Passed).
+pub record Tells (marks code : List ℕ) : Type 0 where
+  pub bit : (p : ℕ) → is_one (bit_at marks p) ≡ among p (starts code)

@@ -1,7 +1,3 @@
--- The laws of keys in rising order, for the functions' proofs and for the crates above; then those of the steps by
--- which they are put in order.
+-- The laws of the keys' order, and of freeing keys in order of repeats.
 pub mod Laws
-pub mod Words
-pub mod Bits
-pub mod Passes
 pub mod Repeats

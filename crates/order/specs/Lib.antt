@@ -1,3 +1,2 @@
 -- The definitions that contracts and laws cite.
 pub mod Order
-pub mod Sort

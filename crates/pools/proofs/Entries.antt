@@ -2,8 +2,8 @@
 -- it bad.
 use mathlib.Core.Bool.{Bool, true, false, ◌||◌, true≢false}
 use mathlib.Core.Path.{◌≡◌, refl, ◌∙◌}
-use Prim.Native.Nat.{ℕ, ◌+◌, ◌≤◌, ◌<◌}
-use borrow.Author.Tests.{lt-ltb, le-ltb, ltb-false}
+use Prim.Native.Nat.{ℕ, ◌+◌, ◌≤◌}
+use borrow.Author.Tests.{le-ltb, ltb-false}
 use lib.Dec.{ltb}
 use Rattle.pools.specs.Good.{GoodChain, GoodStep, GoodSwitch}
 use Rattle.pools.specs.Pools.{Chain, Step, Switch}
@@ -22,15 +22,7 @@ neither_right false b e = e
 -- ---- one entry
 
 module _ (steps : ℕ) (c : Chain) where
-  pub unknown_root : 3 < c.root → bad_chain steps c ≡ true
-  unfolding bad_chain
-  unknown_root h = simp (lt-ltb 3 c.root h)
-
-  pub unknown_tail : c.root ≤ 3 → 2 < c.tail → bad_chain steps c ≡ true
-  unfolding bad_chain
-  unknown_tail r h = simp (le-ltb 3 c.root r, lt-ltb 2 c.tail h)
-
-  pub by_steps : c.root ≤ 3 → c.tail ≤ 2 → bad_chain steps c ≡ past steps c.first_step c.steps
+  by_steps : c.root ≤ 3 → c.tail ≤ 2 → bad_chain steps c ≡ past steps c.first_step c.steps
   unfolding bad_chain
   by_steps r t = simp (le-ltb 3 c.root r, le-ltb 2 c.tail t)
 
@@ -57,11 +49,7 @@ module _ (s : Step) where
   good_step e = record { kind = ltb-false 2 s.kind e }
 
 module _ (cases ranges : ℕ) (s : Switch) where
-  pub cases_past : past cases s.first_case s.cases ≡ true → bad_switch cases ranges s ≡ true
-  unfolding bad_switch
-  cases_past e = simp e
-
-  pub by_ranges : past cases s.first_case s.cases ≡ false
+  by_ranges : past cases s.first_case s.cases ≡ false
       → bad_switch cases ranges s ≡ past ranges s.first_range s.ranges
   unfolding bad_switch
   by_ranges e = simp e

@@ -1,12 +1,14 @@
 -- Tests in their order: what is told where one of several refuses, how a loop that takes them upward comes to it, and
 -- what it says of each of them. Every loop over the entries of a table rests on these laws.
 use mathlib.Core.Bool.{Bool, true, false, cond}
-use mathlib.Core.List.{List, ◌∷◌}
-use mathlib.Core.Path.{◌≡◌, refl}
+use mathlib.Core.List.{List, [], ◌∷◌}
+use mathlib.Core.Path.{◌≡◌, refl, sym, ap, ◌∙◌}
 use Prim.Native.Nat.{ℕ, zero, suc, ◌+◌, ◌-◌, ◌≤◌, ◌<◌}
 use native.Mathlib.Decide.{ℕ_discrete}
 use native.Mathlib.Omega.{arith}
 use borrow.Author.Tests.{eq-eqb, ne_eqb}
+use Rattle.std.specs.Prelude.{Result, Ok, Err}
+use Rattle.std.specs.Result.{IsErr, IsErrAnd}
 use Rattle.pools.specs.Pools.{entries}
 use Rattle.pools.specs.Told.{Told, fine, first_told, first_from}
 
@@ -18,6 +20,32 @@ passes_on test tests e = simp (eq-eqb test.kind 0 e)
 pub refuses_here : (test : Told) (tests : List Told) → 0 < test.kind → first_told (test ∷ tests) ≡ test
 unfolding first_told
 refuses_here test tests h = simp (ne_eqb test.kind 0 (λ e. omega arith))
+
+-- ---- tests as code takes them, one `?` after another
+
+-- what a result tells: nothing where it is fine, and a refusal of some kind where it is not
+pub record Tells {E : Type 0} (told : Result Unit E → Told) : Type 0 where
+  pub of_ok : (x : Unit) → told (Ok x) ≡ fine
+  pub of_err : (e : E) → 0 < (told (Err e)).kind
+
+module _ {E : Type 0} (told : Result Unit E → Told) (tells : Tells told) (test : Told) (tests : List Told) where
+  -- a test that passes leaves it to those after it
+  pub after : (x : Unit) {t : Told} → told (Ok x) ≡ test → t ≡ first_told tests → t ≡ first_told (test ∷ tests)
+  after x e h = h ∙ sym (passes_on test tests (ap (λ (t : Told). t.kind) (sym e ∙ tells.of_ok x)))
+
+  -- and one that refuses is what is handed on
+  pub handed_on : (e : E) (r : Result Unit E) → told (Err e) ≡ test → IsErr r × IsErrAnd r (λ a. a ≡ e)
+      → told r ≡ first_told (test ∷ tests)
+  handed_on e (Ok x) is same = absurd same.1
+  handed_on e (Err a) is same =
+      rw same.1 (is ∙ sym (refuses_here test tests (rw is at (tells.of_err e))))
+
+module _ {E : Type 0} (told : Result Unit E → Told) (tells : Tells told) (test : Told) where
+  -- the last tells for itself
+  pub last : (r : Result Unit E) → told r ≡ test → told r ≡ first_told (test ∷ [])
+  unfolding first_told
+  last (Ok x) is = rw (← is, tells.of_ok x)
+  last (Err e) is = is ∙ sym (refuses_here test [] (rw is at (tells.of_err e)))
 
 -- ---- a loop over n tests, upward
 

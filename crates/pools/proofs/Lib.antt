@@ -6,3 +6,4 @@ pub mod Entries
 pub mod TableLaws
 pub mod Once
 pub mod Examples
+pub mod Numbers

@@ -2,91 +2,65 @@
 -- exceeded is named. All but the last part holds of any list of limits, so that it does not change with them.
 use mathlib.Core.Bool.{Bool, true, false}
 use mathlib.Core.List.{List, [], ◌∷◌, ◌++◌, map, Memᴰ}
-use mathlib.Core.Path.{◌≡◌, refl, sym, ap, ◌∙◌}
-use Prim.Native.Nat.{ℕ, zero, suc, ◌+◌, ◌≤◌, ◌<◌}
+use mathlib.Core.Path.{◌≡◌, refl, ap, ◌∙◌}
+use Prim.Native.Nat.{ℕ, zero, suc, ◌≤◌, ◌<◌}
 use native.Mathlib.Nat.{le_of_suc-le-suc}
-use native.Mathlib.Numerals.{add-one}
 use native.Mathlib.Omega.{arith}
 use borrow.Author.Tests.{ltb-false}
-use lib.ListN.{length, drop, get_or}
-use lib.Seq.{drop-cons, drop-length}
-use Rattle.pools.specs.Sizes.{max_code, max_entries, max_chunks, limits, tells, first_over, first_exceeded}
+use lib.ListN.{length, get_or}
+use Rattle.pools.specs.Answers.{limits_told}
+use Rattle.pools.specs.Sizes.{Tested, max_code, max_entries, max_chunks, limits, tells, first_over, first_exceeded}
 use Rattle.pools.specs.Good.{AllKept, Within}
 use Rattle.pools.specs.Told.{Told, fine, over_limit, first_told}
-use Rattle.pools.specs.declared.limits.Limit.{Limit}
 use Rattle.pools.specs.declared.limits.Sizes.{Sizes}
-use Rattle.pools.proofs.First.{passes_on, refuses_here}
+use Rattle.pools.proofs.First.{passes_on, refuses_here, Tells}
 
 -- ---- one limit
 
-kept_tells : (l : Limit) → l.1 ≡ false → tells l ≡ fine
+kept_tells : (l : Tested) → l.1 ≡ false → tells l ≡ fine
 unfolding tells
 kept_tells l e = rw e
 
-exceeded_tells : (l : Limit) → l.1 ≡ true → tells l ≡ over_limit l.0
+exceeded_tells : (l : Tested) → l.1 ≡ true → tells l ≡ over_limit l.0
 unfolding tells
 exceeded_tells l e = rw e
 
 -- in front of others
-kept_first : (l : Limit) (ls : List Limit) → l.1 ≡ false → first_over (l ∷ ls) ≡ first_over ls
+kept_first : (l : Tested) (ls : List Tested) → l.1 ≡ false → first_over (l ∷ ls) ≡ first_over ls
 unfolding first_over
 kept_first l ls e = passes_on (tells l) (map tells ls) (ap (λ (t : Told). t.kind) (kept_tells l e))
 
-exceeded_first : (l : Limit) (ls : List Limit) → l.1 ≡ true → first_over (l ∷ ls) ≡ over_limit l.0
+exceeded_first : (l : Tested) (ls : List Tested) → l.1 ≡ true → first_over (l ∷ ls) ≡ over_limit l.0
 unfolding first_over
 exceeded_first l ls e =
     let told = exceeded_tells l e in
     refuses_here (tells l) (map tells ls) (omega (arith, ap (λ (t : Told). t.kind) told)) ∙ told
 
--- ---- a loop over them, upward
-
--- those before this place are kept: those from it on tell what all of them tell
-pub record Passed (ls : List Limit) (at : ℕ) : Type 0 where
-  pub within : at ≤ length ls
-  pub so_far : first_over (drop at ls) ≡ first_over ls
-
-module _ {ls : List Limit} where
-  pub none_yet : Passed ls 0
-  none_yet = record { within = omega arith; so_far = refl }
-
-  module _ {at : ℕ} (inv : Passed ls at) where
-    -- the limit at hand, in front of those after it
-    in_hand : (l : Limit) → at < length ls → first_over (get_or ls at l ∷ drop (at + 1) ls) ≡ first_over ls
-    in_hand l h = rw (add-one, ← drop-cons ls at l h) inv.so_far
-
-    pub one_more : (l : Limit) → at < length ls → (get_or ls at l).1 ≡ false → Passed ls (at + 1)
-    one_more l h e = record { within = omega arith; so_far = sym (kept_first (get_or ls at l) _ e) ∙ in_hand l h }
-
-    pub at_exceeded : (l : Limit) → at < length ls → (get_or ls at l).1 ≡ true
-        → over_limit (get_or ls at l).0 ≡ first_over ls
-    at_exceeded l h e = sym (exceeded_first (get_or ls at l) _ e) ∙ in_hand l h
-
-    pub past_last : length ls ≤ at → fine ≡ first_over ls
-    unfolding first_over first_told
-    past_last h =
-        let end : at ≡ length ls = omega (arith, inv.within) in
-        rw (end, drop-length ls) at inv.so_far
+-- what a test of one answers, as `First` takes it
+pub limits_tell : Tells limits_told
+unfolding limits_told
+limits_tell = record { of_ok = λ x. refl; of_err = λ e. omega arith }
 
 -- ---- what they tell
 
 -- a limit is the first of these that is exceeded
-pub record FirstIs (ls : List Limit) (l : Limit) : Type 0 where
-  pub before : List Limit
-  pub after : List Limit
+pub record FirstIs (ls : List Tested) (l : Tested) : Type 0 where
+  pub before : List Tested
+  pub after : List Tested
   pub stands : ls ≡ before ++ (l ∷ after)
   pub kept_before : AllKept before
   pub exceeded : l.1 ≡ true
 
 -- none of them is exceeded, or one is the first
-pub data Outcome (ls : List Limit) (t : Told) : Type 0 where
+pub data Outcome (ls : List Tested) (t : Told) : Type 0 where
   none : AllKept ls → t ≡ fine → Outcome ls t
-  first_is : (l : Limit) → FirstIs ls l → t ≡ over_limit l.0 → Outcome ls t
+  first_is : (l : Tested) → FirstIs ls l → t ≡ over_limit l.0 → Outcome ls t
 
-all_kept_more : (l : Limit) (ls : List Limit) → l.1 ≡ false → AllKept ls → AllKept (l ∷ ls)
+all_kept_more : (l : Tested) (ls : List Tested) → l.1 ≡ false → AllKept ls → AllKept (l ∷ ls)
 all_kept_more l ls e k m (Memᴰ.head q) = rw q e
 all_kept_more l ls e k m (Memᴰ.tail r) = k m r
 
-pub told_by : (ls : List Limit) → Outcome ls (first_over ls)
+pub told_by : (ls : List Tested) → Outcome ls (first_over ls)
 unfolding first_over first_told
 told_by [] = none (λ l m. elim m [ ]) refl
 told_by (l ∷ ls) = go l.1 refl (told_by ls)
@@ -102,7 +76,7 @@ told_by (l ∷ ls) = go l.1 refl (told_by ls)
         (record {
           before = l ∷ f.before;
           after = f.after;
-          stands = ap (λ (rest : List Limit). l ∷ rest) f.stands;
+          stands = ap (λ (rest : List Tested). l ∷ rest) f.stands;
           kept_before = all_kept_more l f.before e f.kept_before;
           exceeded = f.exceeded;
         })
@@ -116,7 +90,7 @@ kept_within s z = go (told_by (limits s))
     go (none k e) = record { kept = k }
     go (first_is l f e) = absurd (omega (arith, ap (λ (t : Told). t.kind) e))
 
-all_kept_tell : (ls : List Limit) → AllKept ls → first_over ls ≡ fine
+all_kept_tell : (ls : List Tested) → AllKept ls → first_over ls ≡ fine
 unfolding first_over first_told
 all_kept_tell [] k = refl
 all_kept_tell (l ∷ ls) k =
@@ -128,7 +102,7 @@ within_kept s w = all_kept_tell (limits s) w.kept
 -- ---- the counts that others build on
 
 -- of limits that are all kept, the one at an index is
-kept_at : (ls : List Limit) → AllKept ls → (i : ℕ) → i < length ls → (get_or ls i (0, false)).1 ≡ false
+kept_at : (ls : List Tested) → AllKept ls → (i : ℕ) → i < length ls → (get_or ls i (0, false)).1 ≡ false
 kept_at [] k i h = absurd (omega arith)
 kept_at (l ∷ ls) k zero h = k l (Memᴰ.head refl)
 kept_at (l ∷ ls) k (suc i) h = kept_at ls (λ m r. k m (Memᴰ.tail r)) i (le_of_suc-le-suc h)

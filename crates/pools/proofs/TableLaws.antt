@@ -5,25 +5,22 @@ use mathlib.Core.Path.{◌≡◌, refl, sym, ap, ◌∙◌}
 use Prim.Native.Nat.{ℕ, ◌%◌, ◌<◌}
 use native.Mathlib.Nat.{div-add-mod', mul_comm}
 use native.Mathlib.Omega.{arith}
-use borrow.Author.Tests.{lt-ltb, le-ltb, ltb-false}
+use borrow.Author.Tests.{le-ltb, ltb-false}
 use lib.ListN.{length}
 use Rattle.pools.specs.Good.{Whole, AllWhole, GoodChains, GoodSteps, GoodTables, ChainsWithin, SwitchesWithin}
 use Rattle.pools.specs.Pools.{chain_at, step_at, switch_at, chain_words, step_words, switch_words, case_words}
 use Rattle.pools.specs.Pools.{whole, chains_in, steps_in, switches_in, cases_in}
 use Rattle.pools.specs.Tables.{ragged, bad_chain, bad_step, bad_switch}
 use Rattle.pools.specs.Tables.{whole_table, good_chains, good_steps, good_switches, first_bad_table}
+use Rattle.pools.specs.Answers.{tables_told}
 use Rattle.pools.specs.Told.{Told, fine, bad_table, first_told}
 use Rattle.pools.proofs.Entries.{not_bad_chain, good_chain, not_bad_step, good_step, not_bad_switch, good_switch}
-use Rattle.pools.proofs.First.{passes_on, refuses_here, FirstAt, Upward, none, first_at, told_upward}
+use Rattle.pools.proofs.First.{passes_on, refuses_here, Tells, FirstAt, Upward, none, first_at, told_upward}
 
 -- ---- a table's words
 
 module _ (size : ℕ) (words : List ℕ) where
-  pub left_over : 0 < length words % size → ragged size words ≡ true
-  unfolding ragged
-  left_over h = lt-ltb 0 (length words % size) h
-
-  pub none_over : length words % size ≡ 0 → ragged size words ≡ false
+  none_over : length words % size ≡ 0 → ragged size words ≡ false
   unfolding ragged
   none_over e = le-ltb 0 (length words % size) (omega arith)
 
@@ -40,6 +37,11 @@ module _ (size : ℕ) (words : List ℕ) where
         div-add-mod' (length words) size,
         mul_comm size (whole size words),
       )
+
+-- what a test of them answers, as `First` takes it
+pub tables_tell : Tells tables_told
+unfolding tables_told
+tables_tell = record { of_ok = λ x. refl; of_err = λ e. omega arith }
 
 -- ---- what entries name
 

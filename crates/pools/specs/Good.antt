@@ -6,15 +6,14 @@ use mathlib.Core.List.{List, Memᴰ}
 use Rattle.pools.specs.Pools.{Chain, Step, Switch, chain_at, step_at, switch_at}
 use Rattle.pools.specs.Pools.{chain_words, step_words, switch_words, case_words}
 use Rattle.pools.specs.Pools.{whole, chains_in, steps_in, switches_in, cases_in}
-use Rattle.pools.specs.Sizes.{limits, max_entries}
-use Rattle.pools.specs.declared.limits.Limit.{Limit}
+use Rattle.pools.specs.Sizes.{Tested, limits, max_entries}
 use Rattle.pools.specs.declared.limits.Sizes.{Sizes}
 
 -- ---- limits
 
 -- none of them is exceeded
-abbrev pub AllKept : List Limit → Type 0
-AllKept ls = (l : Limit) → Memᴰ l ls → l.1 ≡ false
+abbrev pub AllKept : List Tested → Type 0
+AllKept ls = (l : Tested) → Memᴰ l ls → l.1 ≡ false
 
 pub record Within (s : Sizes) : Type 0 where
   pub kept : AllKept (limits s)

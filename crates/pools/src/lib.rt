@@ -15,3 +15,18 @@ pub const STEP_WORDS: usize = 4;
 pub const SWITCH_WORDS: usize = 5;
 
 pub const CASE_WORDS: usize = 2;
+
+// Everything that is lent but the code: a rights word for each constant, a flag for each name, how many tokens and
+// op-assignments there are, and five tables of words.
+#[derive(Clone, Copy)]
+pub struct Pools<'a> {
+    pub constants: &'a [u32],
+    pub names: &'a [u8],
+    pub tokens: usize,
+    pub op_assignments: usize,
+    pub chains: &'a [u32],
+    pub steps: &'a [u32],
+    pub switches: &'a [u32],
+    pub cases: &'a [u32],
+    pub ranges: &'a [u32],
+}

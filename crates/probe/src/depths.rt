@@ -1,12 +1,14 @@
 // What a tag asks of the depths, and what becomes of them, in numbers. Number 0 where the depths are such as the rules
 // ask for; number 1 and zeros where not.
-ghost use Rattle.std.specs.Prelude.{◌≡◌};
-ghost use Rattle.rules.specs.Shapes.{Flow};
-ghost use Rattle.probe.specs.Depths.{holds, fits, no_depths, AfterSame, JumpedSame, NeededSame};
+ghost use Rattle.std.specs.Prelude.{true, ◌≡◌};
+ghost use Rattle.rules.specs.Shapes.{Flows};
+ghost use Rattle.probe.specs.Depths.{holds, fits, no_depths, AfterSame, JumpedSame, NeededSame, ToldIf};
 
 use answer::Depths;
-use rules::{Effect, edges, shapes};
+use rules::Effect;
+use rules::shapes::{self, Flow};
 
+// C interface: an enum does not cross it, so the case is a number.
 #[repr(C)]
 #[derive(Clone, Copy)]
 pub struct DepthsTold {
@@ -27,37 +29,30 @@ pub struct NeededTold {
 }
 
 // A tag's flow.
-fn flow_of(tag: u8) -> u32
-    ensures { Flow tag result }
+fn flow_of(tag: u8) -> Flow
+    ensures { Flows tag result }
 {
-    shapes::flow_of(shapes::shape_of(tag))
+    Flow::of(shapes::shape_of(tag))
 }
 
 // The iterators and handlers that a tag needs are there, and one more of each fits.
+#[tactic(auto, using(crate::proofs::Held::one_more), unfolding(crate::specs::Depths::holds))]
 fn has_depths(tag: u8, iterators: u32, handlers: u32) -> bool
     ensures { result ≡ holds tag iterators handlers }
 {
     let flow = flow_of(tag);
-    if iterators < edges::iterators_needed(flow) {
-        return false;
-    }
-    if handlers < edges::handlers_needed(flow) {
-        return false;
-    }
-    if iterators == 0xffff_ffff {
-        return false;
-    }
-    handlers < 0xffff_ffff
+    flow.iterators_needed() <= iterators
+        && flow.handlers_needed() <= handlers
+        && iterators < u32::MAX
+        && handlers < u32::MAX
 }
 
 // So many can be popped, and what is left fits with those that are pushed. Two words of 32 bits are added in 64.
+#[tactic(auto, unfolding(crate::specs::Depths::fits))]
 fn has_operands(pops: u32, pushes: u32, operands: u32) -> bool
     ensures { result ≡ fits pops pushes operands }
 {
-    if operands < pops {
-        return false;
-    }
-    (operands - pops) as u64 + (pushes as u64) < 0x1_0000_0000
+    pops <= operands && u64::from(operands - pops) + u64::from(pushes) < 0x1_0000_0000
 }
 
 // What is told where the depths are not such as the rules ask for.
@@ -72,7 +67,20 @@ fn nothing() -> DepthsTold
     }
 }
 
+// And where they are.
+fn tell(depths: Depths) -> DepthsTold
+    ensures { ToldIf true depths result }
+{
+    DepthsTold {
+        number: 0,
+        operands: u64::from(depths.operands),
+        iterators: u64::from(depths.iterators),
+        handlers: u64::from(depths.handlers),
+    }
+}
+
 // The depths just after an instruction that needs, pops and pushes so many.
+#[tactic(auto, using(crate::proofs::Held::held_by, crate::proofs::Held::popped, crate::proofs::Held::pushed))]
 #[unsafe(no_mangle)]
 pub extern "C" fn probe_after(
     tag: u8,
@@ -85,10 +93,7 @@ pub extern "C" fn probe_after(
 ) -> DepthsTold
     ensures { AfterSame tag pops pushes operands iterators handlers result }
 {
-    if !has_depths(tag, iterators, handlers) {
-        return nothing();
-    }
-    if !has_operands(pops, pushes, operands) {
+    if !has_depths(tag, iterators, handlers) || !has_operands(pops, pushes, operands) {
         return nothing();
     }
     let effect = Effect {
@@ -101,16 +106,11 @@ pub extern "C" fn probe_after(
         iterators,
         handlers,
     };
-    let after = edges::after(flow_of(tag), effect, before);
-    DepthsTold {
-        number: 0,
-        operands: after.operands as u64,
-        iterators: after.iterators as u64,
-        handlers: after.handlers as u64,
-    }
+    tell(flow_of(tag).after(effect, before))
 }
 
 // The depths at each target, from those before an instruction and those after it.
+#[tactic(auto, using(crate::proofs::Held::held_by))]
 #[unsafe(no_mangle)]
 pub extern "C" fn probe_jumped(
     tag: u8,
@@ -137,13 +137,7 @@ pub extern "C" fn probe_jumped(
         iterators: iterators_after,
         handlers: handlers_after,
     };
-    let jumped = edges::jumped(flow_of(tag), before, after);
-    DepthsTold {
-        number: 0,
-        operands: jumped.operands as u64,
-        iterators: jumped.iterators as u64,
-        handlers: jumped.handlers as u64,
-    }
+    tell(flow_of(tag).jumped(before, after))
 }
 
 // What a tag needs of iterators and handlers, and whether control goes on after it, and nowhere else.
@@ -152,14 +146,10 @@ pub extern "C" fn probe_needed(tag: u8) -> NeededTold
     ensures { NeededSame tag result }
 {
     let flow = flow_of(tag);
-    let iterators = edges::iterators_needed(flow);
-    let handlers = edges::handlers_needed(flow);
-    let falls = edges::falls(flow);
-    let plain = edges::plain(flow);
     NeededTold {
-        iterators: iterators as u64,
-        handlers: handlers as u64,
-        falls: falls as u64,
-        plain: plain as u64,
+        iterators: u64::from(flow.iterators_needed()),
+        handlers: u64::from(flow.handlers_needed()),
+        falls: u64::from(flow.falls()),
+        plain: u64::from(flow.plain()),
     }
 }

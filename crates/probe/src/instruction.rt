@@ -1,10 +1,13 @@
 // What one instruction needs, does and leads to, in numbers. Number 0 where it has its width and the entries that it
-// names are there; number 1 and zeros where not.
+// names are there; number 1 and zeros where not. C interface: each export takes the tables as flat lists.
+ghost use Rattle.std.specs.Prelude.{◌≡◌};
+ghost use Rattle.rules.specs.FromLists.{script, script_of};
 ghost use Rattle.probe.specs.Instruction.{EffectSame, required_told, targets_told, edges_told, target_told};
 ghost use Rattle.probe.specs.Same.{SameTold};
 
 use crate::Told;
-use rules::{edges, effects, rights, shapes};
+use pools::Pools;
+use rules::Script;
 
 #[repr(C)]
 #[derive(Clone, Copy)]
@@ -13,6 +16,37 @@ pub struct EffectTold {
     pub needs: u64,
     pub pops: u64,
     pub pushes: u64,
+}
+
+// The script of which these are lent. What an instruction is asked here looks at no constant, token, op-assignment or
+// right.
+fn lent<'a>(
+    code: &'a [u8],
+    names: &'a [u8],
+    chains: &'a [u32],
+    steps: &'a [u32],
+    switches: &'a [u32],
+    cases: &'a [u32],
+    ranges: &'a [u32],
+) -> Script<'a>
+    ensures { script_of result ≡ script 0 names.now chains.now steps.now switches.now cases.now ranges.now code.now }
+{
+    let pools = Pools {
+        constants: &[],
+        names,
+        tokens: 0,
+        op_assignments: 0,
+        chains,
+        steps,
+        switches,
+        cases,
+        ranges,
+    };
+    Script {
+        code,
+        pools,
+        rights: 0,
+    }
 }
 
 #[unsafe(no_mangle)]
@@ -29,24 +63,28 @@ pub extern "C" fn probe_effect(
     ensures { EffectSame code.now at names.now chains.now steps.now
         switches.now cases.now ranges.now result }
 {
-    if !guards::is_there(code, at, names, chains, steps, switches, cases, ranges) {
-        return EffectTold {
+    let script = lent(code, names, chains, steps, switches, cases, ranges);
+    match guards::instruction_at(&script, at) {
+        Some(instruction) => {
+            let effect = instruction.effect();
+            EffectTold {
+                number: 0,
+                needs: u64::from(effect.needs),
+                pops: u64::from(effect.pops),
+                pushes: u64::from(effect.pushes),
+            }
+        }
+        None => EffectTold {
             number: 1,
             needs: 0,
             pops: 0,
             pushes: 0,
-        };
-    }
-    let effect = effects::effect(shapes::word_at(code, at), code, at, chains);
-    EffectTold {
-        number: 0,
-        needs: effect.needs as u64,
-        pops: effect.pops as u64,
-        pushes: effect.pushes as u64,
+        },
     }
 }
 
 // The rights, as a word of bits.
+#[tactic(auto, unfolding(crate::specs::Instruction::told_if))]
 #[unsafe(no_mangle)]
 pub extern "C" fn probe_required(
     code: &[u8],
@@ -61,21 +99,15 @@ pub extern "C" fn probe_required(
     ensures { SameTold result (required_told code.now at names.now chains.now
         steps.now switches.now cases.now ranges.now) }
 {
-    if !guards::is_there(code, at, names, chains, steps, switches, cases, ranges) {
-        return Told {
-            number: 1,
-            value: 0,
-        };
-    }
-    let word = shapes::word_at(code, at);
-    let required = rights::required_caps(word, code, at, names, chains, steps);
-    Told {
-        number: 0,
-        value: required as u64,
+    let script = lent(code, names, chains, steps, switches, cases, ranges);
+    match guards::instruction_at(&script, at) {
+        Some(instruction) => Told::found(u64::from(instruction.required_caps())),
+        None => Told::without(1),
     }
 }
 
 // How many targets it names.
+#[tactic(auto, unfolding(crate::specs::Instruction::told_if))]
 #[unsafe(no_mangle)]
 pub extern "C" fn probe_targets(
     code: &[u8],
@@ -90,20 +122,15 @@ pub extern "C" fn probe_targets(
     ensures { SameTold result (targets_told code.now at names.now chains.now
         steps.now switches.now cases.now ranges.now) }
 {
-    if !guards::is_there(code, at, names, chains, steps, switches, cases, ranges) {
-        return Told {
-            number: 1,
-            value: 0,
-        };
-    }
-    let flow = shapes::flow_of(shapes::word_at(code, at));
-    Told {
-        number: 0,
-        value: edges::target_count(flow, code, at, switches),
+    let script = lent(code, names, chains, steps, switches, cases, ranges);
+    match guards::instruction_at(&script, at) {
+        Some(instruction) => Told::found(instruction.target_count()),
+        None => Told::without(1),
     }
 }
 
 // How many edges lead out of it.
+#[tactic(auto, unfolding(crate::specs::Instruction::told_if))]
 #[unsafe(no_mangle)]
 pub extern "C" fn probe_edges(
     code: &[u8],
@@ -118,21 +145,18 @@ pub extern "C" fn probe_edges(
     ensures { SameTold result (edges_told code.now at names.now chains.now
         steps.now switches.now cases.now ranges.now) }
 {
-    if !guards::is_there(code, at, names, chains, steps, switches, cases, ranges) {
-        return Told {
-            number: 1,
-            value: 0,
-        };
-    }
-    let flow = shapes::flow_of(shapes::word_at(code, at));
-    let targets = edges::target_count(flow, code, at, switches);
-    Told {
-        number: 0,
-        value: edges::edge_count(flow, targets),
+    let script = lent(code, names, chains, steps, switches, cases, ranges);
+    match guards::instruction_at(&script, at) {
+        Some(instruction) => {
+            let targets = instruction.target_count();
+            Told::found(instruction.flow().edge_count(targets))
+        }
+        None => Told::without(1),
     }
 }
 
 // The target of a number; number 1 also where there is no target of this number.
+#[tactic(auto, unfolding(crate::specs::Instruction::told_if))]
 #[unsafe(no_mangle)]
 pub extern "C" fn probe_target(
     code: &[u8],
@@ -148,22 +172,11 @@ pub extern "C" fn probe_target(
     ensures { SameTold result (target_told code.now at names.now chains.now
         steps.now switches.now cases.now ranges.now k) }
 {
-    if !guards::is_there(code, at, names, chains, steps, switches, cases, ranges) {
-        return Told {
-            number: 1,
-            value: 0,
-        };
-    }
-    let flow = shapes::flow_of(shapes::word_at(code, at));
-    if edges::target_count(flow, code, at, switches) <= k as u64 {
-        return Told {
-            number: 1,
-            value: 0,
-        };
-    }
-    let target = edges::jump_target(code, at, switches, cases, ranges, k);
-    Told {
-        number: 0,
-        value: target as u64,
+    let script = lent(code, names, chains, steps, switches, cases, ranges);
+    match guards::instruction_at(&script, at) {
+        Some(instruction) if (k as u64) < instruction.target_count() => {
+            Told::found(u64::from(instruction.target(k)))
+        }
+        _ => Told::without(1),
     }
 }

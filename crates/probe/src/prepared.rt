@@ -1,10 +1,15 @@
 // Everything before the chunks, as its verdict in numbers. An input that passes is told as kind 0 with nothing counted.
+// C interface: its flat parameters.
 ghost use Rattle.before.specs.Parameters.{input};
 ghost use Rattle.probe.specs.Before.{SameBefore};
 
-use answer::verdict::Verdict;
-use answer::{Outcome, verdict};
+use answer::Accepted;
+use answer::verdict::{NO_CHUNK, Verdict, verdict_of};
+use before::Input;
+use pools::Pools;
+use rules::Script;
 
+#[tactic(auto, unfolding(answer::specs::Answer::told, answer::specs::Answer::numbered, before::specs::Calls::verdict_of))]
 #[unsafe(no_mangle)]
 pub extern "C" fn probe_before(
     rights: u32,
@@ -27,9 +32,7 @@ pub extern "C" fn probe_before(
         (input rights functions constants names tokens op_assignments chains steps switches cases ranges code chunks)
         heights marks.old result marks.new }
 {
-    let outcome = before::before_chunks(
-        rights,
-        functions,
+    let pools = Pools {
         constants,
         names,
         tokens,
@@ -39,22 +42,22 @@ pub extern "C" fn probe_before(
         switches,
         cases,
         ranges,
+    };
+    let script = Script {
         code,
+        pools,
+        rights,
+    };
+    let input = Input {
+        script,
+        functions,
         chunks,
-        marks,
-        heights,
-    );
-    match outcome {
-        Outcome::Passed => Verdict {
-            kind: 0,
-            chunk: verdict::NO_CHUNK,
-            at: 0,
-            p: 0,
-            q: 0,
-            instructions: 0,
-            reached: 0,
-            taken: 0,
-        },
-        Outcome::Refused(answer) => verdict::verdict_of(answer, verdict::NO_CHUNK),
-    }
+    };
+    let nothing = Accepted {
+        instructions: 0,
+        reached: 0,
+        taken: 0,
+    };
+    let answer = before::before_chunks(&input, marks, heights).map(|()| nothing);
+    verdict_of(answer, NO_CHUNK)
 }

@@ -1,4 +1,4 @@
-// The whole call over flat spans, behind the C calling convention.
+// The whole call over flat spans, behind the C calling convention: C interface, its flat parameters.
 ghost use Rattle.std.specs.Prelude.{length};
 ghost use Rattle.before.specs.Parameters.{input};
 ghost use Rattle.verify.specs.Call.{Calls};

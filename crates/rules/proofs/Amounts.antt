@@ -8,7 +8,7 @@ use native.Mathlib.Nat.{mul-le-mul_right}
 use native.Mathlib.Omega.{arith}
 use borrow.Author.Tests.{ne_eqb}
 use lib.Dec.{T, leb, eqb, leb→le, eqb→eq}
-use lib.ListN.{get_or}
+use lib.ListN.{length, get_or}
 use Rattle.code.proofs.ByTag.{tags_of, once, row_holds}
 use Rattle.code.specs.Tags.{Row, among, byte, CHAIN}
 use Rattle.code.specs.Layout.{tag_at, count_at, index_at}
@@ -17,15 +17,21 @@ use Rattle.pools.specs.Pools.{chain_at}
 use Rattle.rules.specs.Acts.{Acts}
 use Rattle.rules.specs.Edges.{falls}
 use Rattle.rules.specs.Effects.{TagEffect, effects, effect, operands_of, needs, pops, pushes}
+use Rattle.rules.specs.Script.{Script, tag_of}
 use Rattle.rules.specs.Shapes.{Shape}
-use Rattle.rules.specs.There.{ChainEntry, ChainThere}
+use Rattle.rules.specs.There.{ChainEntry, ChainThere, HasChainEntry}
 use Rattle.answer.proofs.Apart.{zero≢one}
 use Rattle.rules.proofs.Operands.{tag_small}
 use Rattle.rules.proofs.Tests.{pass_at}
 
--- a chain that is there whole is in its table
+-- an instruction whose chain is there whole has its entry
 pub chain_entry_of : {code chains steps : List ℕ} {p : ℕ} → ChainThere code chains steps p → ChainEntry code chains p
 chain_entry_of there = record { entry = λ e. (there.chain e).entry }
+
+-- the chain that a CHAIN names is in its table
+pub chain_entry : (S : Script) (p : ℕ) → HasChainEntry S p → tag_of S p ≡ byte CHAIN → (i : ℕ) → i ≡ index_at S.code p
+    → i * 7 + 6 < length S.pools.chains
+chain_entry S p there e i q = omega (arith, q, there.entry e)
 
 -- a digit's part of a count of two bytes is small
 pub part_small : (word n : ℕ) → n < 65536 → word % 4 * n ≤ 196605

@@ -1,7 +1,7 @@
 -- Every operand that a rule reads lies inside its instruction: a computed test over the tags, and what it tells at each.
 use mathlib.Core.Bool.{Bool, true, cond}
 use mathlib.Core.List.{List, [], ◌∷◌}
-use mathlib.Core.Path.{◌≡◌, refl}
+use mathlib.Core.Path.{◌≡◌, refl, sym}
 use Prim.Native.Nat.{ℕ, ◌+◌, ◌-◌, ◌≤◌, ◌<◌}
 use native.Mathlib.Omega.{arith}
 use lib.Dec.{T, eqb, leb, ltb, leb→le}
@@ -41,6 +41,9 @@ module _ (code : List ℕ) (at : ℕ) (wide : 0 < width_at code at) where
 
   pub tag_there : at < length code
   tag_there = there.byte
+
+  pub width_here : width_of (tag_at code at) ≡ width_at code at
+  width_here = sym there.tag
 
   pub tag_small : tag_at code at < 256
   tag_small = tag_byte (tag_at code at) (omega (arith, there.tag, there.some))

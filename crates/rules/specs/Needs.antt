@@ -16,10 +16,14 @@ iterators_needed tag = cond (among tag (bytes (ITER_DROP ∷ iter_nexts))) 1 0
 unfoldable pub handlers_needed : ℕ → ℕ
 handlers_needed tag = cond (eqb tag (byte POP_HANDLER)) 1 0
 
--- of the instruction at a place: the rights that it lacks, the operands that it needs, and that it has all it needs
+-- of the instruction at a place: the rights that it needs and those that it lacks, the operands that it needs, and
+-- that it has all it needs
 module _ (S : Script) (p : ℕ) where
+  abbrev pub required_rights : ℕ
+  required_rights = required S.code S.pools.names S.pools.chains S.pools.steps p
+
   abbrev pub lacks : ℕ
-  lacks = lacking (required S.code S.pools.names S.pools.chains S.pools.steps p) S.rights
+  lacks = lacking required_rights S.rights
 
   abbrev pub operands_needed : ℕ
   operands_needed = needs S.code S.pools.chains p

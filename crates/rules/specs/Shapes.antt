@@ -6,6 +6,9 @@ use Rattle.code.specs.Layout.{Field, target, count8, count16, slot, index, layou
 use Rattle.code.specs.Tags.{byte, bytes, ITER_INIT, ITER_DROP, POP_HANDLER, SWITCH, iter_nexts, push_handlers}
 use Rattle.code.specs.Width.{width_of}
 use Rattle.rules.specs.Asks.{Asks}
+use Rattle.rules.specs.declared.shapes.Flow as code
+use Rattle.rules.specs.declared.shapes.Flow.TheVariants.{Next, IterInit, PopHandler, IterDrop, IterNext, PushHandler}
+use Rattle.rules.specs.declared.shapes.Flow.TheVariants.{Branch, Jump, Switch, Leave}
 use Rattle.rules.specs.Edges.{jumping, falls, plain}
 use Rattle.rules.specs.Effects.{effect}
 use Rattle.rules.specs.Needs.{iterators_needed, handlers_needed}
@@ -20,8 +23,8 @@ place_from (target ∷ fields) at = place_from fields (at + 4)
 place_from (slot ∷ fields) at = place_from fields (at + 2)
 place_from (index pool ∷ fields) at = place_from fields (at + 2)
 
--- the flows by number: 0 none of the following, 1 ITER_INIT, 2 POP_HANDLER, 3 ITER_DROP, 4 ITER_NEXT*, 5 PUSH_HANDLER*,
--- 6 the branches, 7 JUMP, 8 SWITCH, 9 RETURN and THROW
+-- the flows by their digits: 0 none of the following, 1 ITER_INIT, 2 POP_HANDLER, 3 ITER_DROP, 4 ITER_NEXT*,
+-- 5 PUSH_HANDLER*, 6 the branches, 7 JUMP, 8 SWITCH, 9 RETURN and THROW
 pub record Flow (tag flow : ℕ) : Type 0 where
   pub is_plain : ltb flow 4 ≡ plain tag
   pub falls_on : ltb flow 7 ≡ falls tag
@@ -35,6 +38,23 @@ pub record Flow (tag flow : ℕ) : Type 0 where
   pub iterators : iterators_needed tag ≡ cond (eqb flow 3) 1 (cond (eqb flow 4) 1 0)
   pub handlers : handlers_needed tag ≡ cond (eqb flow 2) 1 0
   pub low : flow < 10
+
+-- the digit of each flow
+abbrev pub digit : code.Flow → ℕ
+digit Next = 0
+digit IterInit = 1
+digit PopHandler = 2
+digit IterDrop = 3
+digit IterNext = 4
+digit PushHandler = 5
+digit Branch = 6
+digit Jump = 7
+digit Switch = 8
+digit Leave = 9
+
+-- a tag's flow, as the code's enum
+abbrev pub Flows : ℕ → code.Flow → Type 0
+Flows tag flow = Flow tag (digit flow)
 
 -- a word with nothing above the width: no count, the flow 0 and no rights
 unfoldable pub simple : ℕ → Bool

@@ -1,5 +1,6 @@
 // The rights bits that the code asks for by name, with document 01's numbers. The others stand in the words of the tags
-// that ask for them (shapes), or in the words that a caller lends for its constants.
+// that ask for them (shapes), or in the words that a caller lends for its constants. They stay bits of a number: the C
+// interface takes and answers them so.
 
 pub const FUNCTION: u32 = 0x0001;
 

@@ -3,17 +3,19 @@ ghost use Rattle.std.specs.Prelude.{true, List, ◌≡◌, ℕ, ◌+◌, ◌*◌
 ghost use Rattle.code.specs.Layout.{tag_at, count_at};
 ghost use Rattle.code.specs.Width.{width_at};
 ghost use Rattle.rules.specs.Acts.{Acts};
+ghost use Rattle.rules.specs.FromLists.{script_of};
 ghost use Rattle.rules.specs.Shapes.{simple, Shape};
-ghost use Rattle.rules.specs.There.{ChainEntry};
+ghost use Rattle.rules.specs.There.{HasChainEntry};
 
-use crate::Effect;
-use code::tag;
+use crate::{Effect, Instruction};
+use code::{Number, tag};
 use pools::CHAIN_WORDS;
 
-// The count n among an instruction's operands, 0 where it has none.
+// The count n among an instruction's operands, 0 where it has none. The word is that of its tag. It takes the code and
+// not the instruction: of a code two references away the proof does not know that `at + place` fits.
 fn count_at(word: u64, code: &[u8], at: usize) -> u16
     requires shape { Shape (tag_at code.now at) word }
-    requires at_nonzero { 0 < width_at code.now at }
+    requires wide { 0 < width_at code.now at }
     ensures { result ≡ count_at code.now at }
 {
     let place = (word / 0x1_0000 % 16) as usize;
@@ -23,10 +25,11 @@ fn count_at(word: u64, code: &[u8], at: usize) -> u16
     if place < 8 {
         return code[at + place] as u16;
     }
-    code::read_u16(code, at + (place - 8))
+    u16::read(code, at + (place - 8))
 }
 
 // What a tag's word says of an instruction with the count n.
+#[tactic(auto, using(crate::proofs::Amounts::part_small))]
 fn counted(word: u64, n: u16) -> Effect
     ensures { result ≡ record {
       needs = word % 4 + word / 4 % 4 * n;
@@ -50,22 +53,23 @@ pub fn fixed_effect(word: u64) -> Effect
     counted(word, 0)
 }
 
-// How many operands the instruction at an offset needs, pops and pushes. The word is that of its tag.
-pub fn effect(word: u64, code: &[u8], at: usize, chains: &[u32]) -> Effect
-    requires shape { Shape (tag_at code.now at) word }
-    requires at_nonzero { 0 < width_at code.now at }
-    requires chain_entry { ChainEntry code.now chains.now at }
-    ensures { Acts code.now chains.now at result }
-{
-    // A CHAIN goes by the operands k of its entry, any other instruction by its count n.
-    if code[at] == tag::CHAIN {
-        let i = code::read_u16(code, at + 1) as usize;
-        let k = chains[i * CHAIN_WORDS + 2];
-        return Effect {
-            needs: k,
-            pops: k,
-            pushes: 1,
-        };
+impl<'a> Instruction<'a> {
+    // How many operands it needs, pops and pushes.
+    pub fn effect(&self) -> Effect
+        requires { HasChainEntry (script_of self.now.script.now) self.now.at }
+        ensures { Acts self.now.script.now.code.now self.now.script.now.pools.chains.now self.now.at result }
+    {
+        let script = self.script;
+        // A CHAIN goes by the operands k of its entry, any other instruction by its count n.
+        if script.code[self.at] == tag::CHAIN {
+            let i = self.index() as usize;
+            let k = script.pools.chains[i * CHAIN_WORDS + 2];
+            return Effect {
+                needs: k,
+                pops: k,
+                pushes: 1,
+            };
+        }
+        counted(self.word, count_at(self.word, script.code, self.at))
     }
-    counted(word, count_at(word, code, at))
 }

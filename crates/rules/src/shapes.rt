@@ -3,35 +3,64 @@
 // of its count n; what it pushes; its width; where n stands, as its offset from the tag and 8 more where it has two
 // bytes, 0 where there is none; its flow, below; and in the four highest the rights that it asks for (caps). A CHAIN's
 // operands k stand in its own table, and not here.
-ghost use Rattle.std.specs.Prelude.{◌≡◌, ℕ, ◌<◌};
+ghost use Rattle.std.specs.Prelude.{◌≡◌, ℕ};
 ghost use Rattle.code.specs.Layout.{tag_at};
 ghost use Rattle.code.specs.Width.{width_of, width_at};
 ghost use Rattle.rules.specs.Asks.{Asks};
-ghost use Rattle.rules.specs.Shapes.{simple, Shape, Flow};
+ghost use Rattle.rules.specs.Shapes.{simple, Shape, Flow, Flows};
 
+use crate::Instruction;
 use code::tag;
 
-// How control goes on, and what becomes of iterators and handlers. The groups that the rules speak of are runs of these
-// numbers. 0: control goes on to the next instruction, with the iterators and handlers as they were.
-pub const ITER_INIT: u32 = 1;
+// How control goes on, and what becomes of iterators and handlers. Each has its digit in a tag's word.
+#[derive(Clone, Copy, PartialEq, Eq)]
+pub enum Flow {
+    // To the next instruction, with the iterators and handlers as they were.
+    Next = 0,
+    IterInit = 1,
+    PopHandler = 2,
+    IterDrop = 3,
+    IterNext = 4,
+    PushHandler = 5,
+    Branch = 6,
+    Jump = 7,
+    Switch = 8,
+    // RETURN and THROW.
+    Leave = 9,
+}
 
-pub const POP_HANDLER: u32 = 2;
+// The flow of a digit. Any number has one: what is no flow's digit is no tag's either.
+impl From<u32> for Flow {
+    ghost from_gives = { λ number flow. (tag : ℕ) → Flow tag number → Flows tag flow };
 
-// Up to here control goes to the next instruction and nowhere else.
-pub const ITER_DROP: u32 = 3;
+    fn from(number: u32) -> Flow {
+        match number {
+            0 => Flow::Next,
+            1 => Flow::IterInit,
+            2 => Flow::PopHandler,
+            3 => Flow::IterDrop,
+            4 => Flow::IterNext,
+            5 => Flow::PushHandler,
+            6 => Flow::Branch,
+            7 => Flow::Jump,
+            8 => Flow::Switch,
+            _ => Flow::Leave,
+        }
+    }
+}
 
-pub const ITER_NEXT: u32 = 4;
-
-pub const PUSH_HANDLER: u32 = 5;
-
-// Up to 6, the branches, it goes to the next instruction; from 4 to 7 it has the target that stands in the code.
-pub const JUMP: u32 = 7;
-
-// Above it 9, of RETURN and THROW.
-pub const SWITCH: u32 = 8;
+impl Flow {
+    // The flow in a tag's word.
+    pub fn of(word: u64) -> Flow
+        ensures { (tag : ℕ) → Shape tag word → Flows tag result }
+    {
+        Flow::from((word / 0x10_0000 % 16) as u32)
+    }
+}
 
 // A tag's word, a line for each: rights, flow, place of n, width; pushes, pops, needs. The numbers stand in a `match`,
-// since an array would be stored anew at every look.
+// since an array would be stored anew at every look. They stay out of who looks, so that they stand once.
+#[inline(never)]
 pub fn shape_of(tag: u8) -> u64
     ensures { Shape tag result }
 {
@@ -112,16 +141,9 @@ pub fn shape_of(tag: u8) -> u64
     }
 }
 
-// The word of the tag at an offset.
-pub fn word_at(code: &[u8], at: usize) -> u64
-    requires { 0 < width_at code.now at }
-    ensures { Shape (tag_at code.now at) result }
-{
-    shape_of(code[at])
-}
-
 // Is there nothing in a word but what the instruction needs, pops and pushes, and its width? It has no count then and
 // asks for no rights, and control goes on to the next instruction with the iterators and handlers as they were.
+#[tactic(auto, unfolding(crate::specs::Shapes::simple))]
 pub fn is_simple(word: u64) -> bool
     ensures { result ≡ simple word }
 {
@@ -135,16 +157,23 @@ pub fn width_in(word: u64) -> usize
     (word / 0x1000 % 16) as usize
 }
 
-// The flow in a tag's word.
-pub fn flow_of(word: u64) -> u32
-    ensures { (tag : ℕ) → Shape tag word → Flow tag result }
-{
-    (word / 0x10_0000 % 16) as u32
-}
-
 // The rights in a tag's word, and what else decides about them.
 pub fn asks_of(word: u64) -> u32
     ensures { (tag : ℕ) → Shape tag word → Asks tag result }
 {
     (word / 0x100_0000 % 0x1_0000) as u32
+}
+
+impl<'a> Instruction<'a> {
+    pub fn width(&self) -> usize
+        ensures { result ≡ width_at self.now.script.now.code.now self.now.at }
+    {
+        width_in(self.word)
+    }
+
+    pub fn flow(&self) -> Flow
+        ensures { Flows (tag_at self.now.script.now.code.now self.now.at) result }
+    {
+        Flow::of(self.word)
+    }
 }

@@ -9,8 +9,11 @@ use lib.Dec.{ltb, leb}
 use Rattle.listing.specs.Starts.{starts}
 use Rattle.listing.proofs.Marked.{told_by_marks}
 use Rattle.marks.specs.Places.{Holds, bit_at, is_one}
-use Rattle.answer.specs.declared.Answer.TheVariants.{JumpOutOfRange, JumpIntoAnInstruction}
+use Rattle.answer.specs.declared.Refusal.TheVariants.{JumpOutOfRange, JumpIntoAnInstruction}
 use Rattle.demand.specs.Chunk.{judge}
+use Rattle.answer.specs.Depths.{Item}
+use Rattle.machine.specs.Walk.{first_bad_jump}
+use Rattle.rules.specs.FromLists.{script}
 use Rattle.rules.specs.Script.{Script}
 use Rattle.demand.specs.Span.{Span}
 use Rattle.answer.proofs.Apart.{zero≢one}
@@ -51,3 +54,10 @@ pub judged : (S : Script) (span : Span) (at target : ℕ) {marks : List ℕ} →
     → jump_test marks span.entry span.end at target ≡ judge S span at target
 unfolding jump_test judge
 judged S span at target h = rw (told_by_marks h target) refl
+
+-- the judge looks at the code alone, and so does the first jump that it refuses
+pub code_alone_judges : (S : Script) (rights : ℕ) (names chains steps switches cases ranges : List ℕ) (span : Span) (at : ℕ)
+    (jumps : List Item) → first_bad_jump (judge S span at) jumps
+    ≡ first_bad_jump (judge (script rights names chains steps switches cases ranges S.code) span at) jumps
+unfolding judge
+code_alone_judges S rights names chains steps switches cases ranges span at jumps = refl

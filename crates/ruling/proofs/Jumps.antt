@@ -10,15 +10,14 @@ use lib.ListN.{length, get_or, drop}
 use lib.Seq.{drop-cons, drop-length}
 use Rattle.listing.specs.Starts.{starts}
 use Rattle.marks.specs.Places.{Holds}
-use Rattle.answer.specs.declared.Answer.{Answer}
+use Rattle.answer.specs.declared.Refusal.{Refusal}
 use Rattle.answer.specs.declared.Depths.{Depths}
 use Rattle.answer.specs.Depths.{Item}
 use Rattle.demand.specs.Chunk.{judge}
 use Rattle.rules.specs.Script.{Script}
 use Rattle.demand.specs.Span.{Span}
 use Rattle.machine.specs.Walk.{first_bad_jump}
-use Rattle.answer.specs.declared.Outcome.{Outcome}
-use Rattle.answer.specs.declared.Outcome.TheVariants.{Passed, Refused}
+use Rattle.std.specs.Prelude.{Result, Ok, Err}
 use Rattle.answer.specs.Answer.{told}
 use Rattle.ruling.specs.Ruling.{jump_test}
 use Rattle.ruling.proofs.Jump.{judged}
@@ -31,12 +30,12 @@ abbrev jumps : Depths → List ℕ → List Item
 jumps d targets = map (λ (t : ℕ). record { place = t; depths = d }) targets
 
 -- one jump, then those after it
-module _ (test : ℕ → Option Answer) (d : Depths) {t : ℕ} (ts : List ℕ) {r : Outcome} (e : told r ≡ test t) where
-  goes_on : r ≡ Passed → first_bad_jump test (jumps d (t ∷ ts)) ≡ first_bad_jump test (jumps d ts)
+module _ (test : ℕ → Option Refusal) (d : Depths) {t : ℕ} (ts : List ℕ) {r : Result (Unit {0}) Refusal} (e : told r ≡ test t) where
+  goes_on : r ≡ Ok tt → first_bad_jump test (jumps d (t ∷ ts)) ≡ first_bad_jump test (jumps d ts)
   unfolding first_bad_jump told
   goes_on p = rw (← e, p)
 
-  stops : {answer : Answer} → r ≡ Refused answer → told r ≡ first_bad_jump test (jumps d (t ∷ ts))
+  stops : {answer : Refusal} → r ≡ Err answer → told r ≡ first_bad_jump test (jumps d (t ∷ ts))
   unfolding first_bad_jump told
   stops p = rw (← e, p)
 
@@ -70,15 +69,15 @@ module _ {marks targets : List ℕ} {entry end at k : ℕ} (inv : Good marks tar
     in_turn S declared d h =
         ap (λ (ts : List ℕ). first_bad_jump (judge S (span entry end declared) at) (jumps d ts)) here ∙ inv.left S declared d h
 
-    module _ {r : Outcome} (tested : told r ≡ jump_test marks entry end at t) where
-      pub one_more : r ≡ Passed → Good marks targets entry end at (k + 1)
+    module _ {r : Result (Unit {0}) Refusal} (tested : told r ≡ jump_test marks entry end at t) where
+      pub one_more : r ≡ Ok tt → Good marks targets entry end at (k + 1)
       one_more p = record {
         within = omega arith;
         left = λ S declared d h.
             sym (goes_on (judge S (span entry end declared) at) d (drop (k + 1) targets) (tested ∙ judged S (span entry end declared) at t h) p) ∙ in_turn S declared d h;
       }
 
-      pub refused : {answer : Answer} → r ≡ Refused answer → (S : Script) (declared : ℕ) (d : Depths) → Holds marks (starts S.code)
+      pub refused : {answer : Refusal} → r ≡ Err answer → (S : Script) (declared : ℕ) (d : Depths) → Holds marks (starts S.code)
           → told r ≡ first_bad_jump (judge S (span entry end declared) at) (jumps d targets)
       refused p S declared d h =
           stops (judge S (span entry end declared) at) d (drop (k + 1) targets) (tested ∙ judged S (span entry end declared) at t h) p ∙ in_turn S declared d h

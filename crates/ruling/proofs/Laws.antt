@@ -4,7 +4,7 @@ use mathlib.Core.List.{map}
 use mathlib.Core.Option.{none, some}
 use mathlib.Core.Path.{◌≡◌}
 use Prim.Native.Nat.{ℕ}
-use Rattle.answer.specs.declared.Answer.{Answer}
+use Rattle.answer.specs.declared.Refusal.{Refusal}
 use Rattle.answer.specs.declared.Depths.{Depths}
 use Rattle.rules.specs.Edges.{falls, targets, after, jumped}
 use Rattle.machine.specs.Walk as machine
@@ -14,31 +14,31 @@ use Rattle.demand.specs.Span.{Span}
 use Rattle.answer.proofs.Apart.{zero≢one}
 use Rattle.demand.proofs.Says.{Says, says, no_rights, no_operands, no_iterator, no_handler, no_next, goes}
 use Rattle.ruling.specs.declared.Edges.{Edges}
-use Rattle.ruling.specs.declared.Ruling.TheVariants.{Denies, Gives}
+use Rattle.std.specs.Prelude.{Ok, Err}
 use Rattle.ruling.specs.Ruling.{answers, edges_of, ruled}
 
 module _ (S : Script) (span : Span) (p : ℕ) (d : Depths) where
   -- a denial is the rule's
-  pub denied : {answer : Answer} → ruled S span p d ≡ Denies answer → rule S span p d ≡ machine.denies answer
+  pub denied : {answer : Refusal} → ruled S span p d ≡ Err answer → rule S span p d ≡ machine.denies answer
   unfolding ruled answers
   denied {answer} e = go (rule S span p d) e
     where
-      go : (o : machine.Ruling Answer) → answers o (edges_of S p d) ≡ Denies answer → o ≡ machine.denies answer
+      go : (o : machine.Ruling Refusal) → answers o (edges_of S p d) ≡ Err answer → o ≡ machine.denies answer
       go (machine.denies a) q = let same : a ≡ answer = cc in rw same
       go (machine.gives post fall jumps) q = absurd (zero≢one (cc))
 
-  module _ {edges : Edges} (e : ruled S span p d ≡ Gives edges) where
+  module _ {edges : Edges} (e : ruled S span p d ≡ Ok edges) where
     -- edges that are given are those of the instruction
     pub given_edges : edges ≡ edges_of S p d
     unfolding ruled answers
     given_edges = go (rule S span p d) e
       where
-        go : (o : machine.Ruling Answer) → answers o (edges_of S p d) ≡ Gives edges → edges ≡ edges_of S p d
+        go : (o : machine.Ruling Refusal) → answers o (edges_of S p d) ≡ Ok edges → edges ≡ edges_of S p d
         go (machine.denies a) q = absurd (zero≢one (cc))
         go (machine.gives post fall jumps) q = cc
 
     -- the rule has not denied
-    not_denied : {o : machine.Ruling Answer} {a : Answer} {A : Type 0} → answers o (edges_of S p d) ≡ Gives edges → o ≡ machine.denies a → A
+    not_denied : {o : machine.Ruling Refusal} {a : Refusal} {A : Type 0} → answers o (edges_of S p d) ≡ Ok edges → o ≡ machine.denies a → A
     unfolding answers
     not_denied q n = let both = rw n at q in absurd (zero≢one (cc))
 

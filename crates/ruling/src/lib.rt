@@ -3,24 +3,23 @@
 // Left to `walk`: which places are taken in which order, and the depths seen at them.
 #![tactic(auto)]
 
-ghost use Rattle.std.specs.Prelude.{◌||◌, List, map, ◌≡◌, ℕ, ◌+◌, ◌-◌, ◌^◌, ◌≤◌, ◌<◌, ltb, leb, length};
-ghost use Rattle.code.specs.Layout.{tag_at};
-ghost use Rattle.code.specs.Width.{width_at};
+ghost use Rattle.std.specs.Prelude.{◌||◌, map, ◌≡◌, ℕ, ◌+◌, ◌-◌, ◌^◌, ◌≤◌, ◌<◌, ltb, leb, length};
 ghost use Rattle.listing.specs.Starts.{starts};
 ghost use Rattle.marks.specs.Places.{Holds};
 ghost use Rattle.pools.specs.Sizes.{max_code};
 ghost use Rattle.answer.specs.declared.Depths.{Depths};
-ghost use Rattle.rules.specs.Edges.{targets_of};
+ghost use Rattle.rules.specs.Edges.{targets};
 ghost use Rattle.demand.specs.Chunk.{needs_test, judge};
-ghost use Rattle.rules.specs.Shapes.{Shape, Flow};
-ghost use Rattle.rules.specs.There.{NameThere, ChainThere, SwitchThere, HeldBy};
+ghost use Rattle.rules.specs.Shapes.{Flows};
+ghost use Rattle.rules.specs.There.{HasName, HasChain, HasSwitch, HeldBy};
 ghost use Rattle.machine.specs.Walk.{first_bad_jump};
 ghost use Rattle.answer.specs.Answer.{told};
-ghost use Rattle.rules.specs.FromLists.{script};
+ghost use Rattle.rules.specs.FromLists.{script_of};
 ghost use Rattle.ruling.specs.Ruling.{leaving, Settles, settled, jump_test, ruled};
 
-use answer::{Answer, Depths, Outcome};
-use rules::Effect;
+use answer::{Depths, Refusal};
+use rules::shapes::Flow;
+use rules::{Effect, Instruction, effects, rights, shapes};
 
 // Where control goes from an instruction: whether it falls through, the place after it, the depths just after it, and
 // those at each of its targets.
@@ -32,56 +31,49 @@ pub struct Edges {
     pub jumped: Depths,
 }
 
-// What the rule of an instruction says: it denies with an answer, or gives the edges.
-#[derive(Clone, Copy)]
-pub enum Ruling {
-    Denies(Answer),
-    Gives(Edges),
-}
-
 // Kind 4, with only what lacks, then 12, 15 and 16: has an instruction of this flow the rights and the depths that it
 // needs?
-fn check_needs(missing: u32, flow: u32, needs: u32, at: usize, d: Depths) -> Outcome
-    ensures { (tag : ℕ) → Flow tag flow → told result ≡ needs_test missing tag needs at d }
+fn check_needs(missing: u32, flow: Flow, needs: u32, at: usize, d: Depths) -> Result<(), Refusal>
+    ensures { (tag : ℕ) → Flows tag flow → told result ≡ needs_test missing tag needs at d }
 {
     let have = d.operands;
     if 0 < missing {
-        return Outcome::Refused(Answer::MissingCaps {
+        return Err(Refusal::MissingCaps {
             at: at as u64,
             missing,
         });
     }
     if have < needs {
-        return Outcome::Refused(Answer::Underflow {
+        return Err(Refusal::Underflow {
             at: at as u64,
             need: needs,
             have,
         });
     }
-    if d.iterators < rules::edges::iterators_needed(flow) {
-        return Outcome::Refused(Answer::IteratorUnderflow(at as u64));
+    if d.iterators < flow.iterators_needed() {
+        return Err(Refusal::IteratorUnderflow(at as u64));
     }
-    if d.handlers < rules::edges::handlers_needed(flow) {
-        return Outcome::Refused(Answer::HandlerUnderflow(at as u64));
+    if d.handlers < flow.handlers_needed() {
+        return Err(Refusal::HandlerUnderflow(at as u64));
     }
-    Outcome::Passed
+    Ok(())
 }
 
 // 13 where nothing but the next place is left to go to and it is not before the end; else the edges. For an instruction
 // that has the depths it needs.
-fn leave(flow: u32, effect: Effect, next: u32, end: u32, d: Depths) -> Ruling
+fn leave(flow: Flow, effect: Effect, next: u32, end: u32, d: Depths) -> Result<Edges, Refusal>
     requires held_by { HeldBy flow d }
     requires pops_le_operands { effect.pops ≤ d.operands }
     requires pushes_bound { d.operands - effect.pops + effect.pushes < 2 ^ 32 }
-    ensures { (tag : ℕ) → Flow tag flow → result ≡ leaving tag effect.pops effect.pushes next end d }
+    ensures { (tag : ℕ) → Flows tag flow → result ≡ leaving tag effect.pops effect.pushes next end d }
 {
-    if rules::edges::plain(flow) && end <= next {
-        return Ruling::Denies(Answer::FallsOffTheEnd);
+    if flow.plain() && end <= next {
+        return Err(Refusal::FallsOffTheEnd);
     }
-    let after = rules::edges::after(flow, effect, d);
-    let jumped = rules::edges::jumped(flow, d, after);
-    let falls = rules::edges::falls(flow);
-    Ruling::Gives(Edges {
+    let after = flow.after(effect, d);
+    let jumped = flow.jumped(d, after);
+    let falls = flow.falls();
+    Ok(Edges {
         falls,
         next,
         after,
@@ -92,59 +84,42 @@ fn leave(flow: u32, effect: Effect, next: u32, end: u32, d: Depths) -> Ruling
 // The tests in their order, and then the edges, of an instruction that lacks so much of its rights.
 fn settle(
     missing: u32,
-    flow: u32,
+    flow: Flow,
     effect: Effect,
     at: usize,
     next: u32,
     end: u32,
     d: Depths,
-) -> Ruling
+) -> Result<Edges, Refusal>
     requires { Settles flow effect d }
-    ensures { (tag : ℕ) → Flow tag flow → result ≡ settled missing tag effect at next end d }
+    ensures { (tag : ℕ) → Flows tag flow → result ≡ settled missing tag effect at next end d }
 {
-    let able = check_needs(missing, flow, effect.needs, at, d);
-    if let Outcome::Refused(answer) = able {
-        return Ruling::Denies(answer);
-    }
+    check_needs(missing, flow, effect.needs, at, d)?;
     leave(flow, effect, next, end, d)
 }
 
-// The rule of the instruction at an offset, in a chunk with this end. The word is that of its tag.
-pub fn rule_of(
-    word: u64,
-    rights: u32,
-    names: &[u8],
-    chains: &[u32],
-    steps: &[u32],
-    code: &[u8],
-    at: usize,
-    end: u32,
-    d: Depths,
-) -> Ruling
-    requires shape { Shape (tag_at code.now at) word }
-    requires at_nonzero { 0 < width_at code.now at }
-    requires name_there { NameThere code.now names.now at }
-    requires chain_there { ChainThere code.now chains.now steps.now at }
-    requires code_len_bound { length code.now ≤ max_code }
+// The rule of an instruction, in a chunk with this end. What it names is there: `required_caps` and `effect` ask for it.
+pub fn rule_of(instruction: &Instruction<'_>, end: u32, d: Depths) -> Result<Edges, Refusal>
+    requires has_name { HasName (script_of instruction.now.script.now) instruction.now.at }
+    requires has_chain { HasChain (script_of instruction.now.script.now) instruction.now.at }
+    requires code_len_bound { length instruction.now.script.now.code.now ≤ max_code }
     requires operands_bound { d.operands + 1 < 2 ^ 32 }
     requires iterators_bound { d.iterators + 1 < 2 ^ 32 }
     requires handlers_bound { d.handlers + 1 < 2 ^ 32 }
-    ensures { (switches cases ranges : List ℕ) (entry declared : ℕ)
-        → result ≡ ruled
-        (script rights names.now chains.now steps.now switches cases ranges
-        code.now)
-        (record { entry = entry; end = end; declared = declared }) at d }
+    ensures { (entry declared : ℕ) → result ≡ ruled (script_of instruction.now.script.now)
+        (record { entry = entry; end = end; declared = declared }) instruction.now.at d }
 {
-    let next = (at + rules::shapes::width_in(word)) as u32;
+    let at = instruction.at;
+    let next = (at + instruction.width()) as u32;
     // Of a simple instruction nothing is looked up but the word.
-    if rules::shapes::is_simple(word) {
-        let effect = rules::effects::fixed_effect(word);
-        return settle(0, 0, effect, at, next, end, d);
+    if shapes::is_simple(instruction.word) {
+        let effect = effects::fixed_effect(instruction.word);
+        return settle(0, Flow::Next, effect, at, next, end, d);
     }
-    let needed = rules::rights::required_caps(word, code, at, names, chains, steps);
-    let missing = rules::rights::lacking(needed, rights);
-    let effect = rules::effects::effect(word, code, at, chains);
-    let flow = rules::shapes::flow_of(word);
+    let needed = instruction.required_caps();
+    let missing = rights::lacking(needed, instruction.script.rights);
+    let effect = instruction.effect();
+    let flow = instruction.flow();
     settle(missing, flow, effect, at, next, end, d)
 }
 
@@ -156,59 +131,47 @@ fn is_outside(entry: u32, end: u32, target: u32) -> bool
 }
 
 // The tests of one jump: 9, then 10.
-pub fn go(marks: &[u64], entry: u32, end: u32, at: usize, target: u32) -> Outcome
+pub fn go(marks: &[u64], entry: u32, end: u32, at: usize, target: u32) -> Result<(), Refusal>
     ensures { told result ≡ jump_test marks.now entry end at target }
 {
     let outside = is_outside(entry, end, target);
     let starts = marks::starts_at(marks, target as usize);
     if outside {
-        return Outcome::Refused(Answer::JumpOutOfRange {
+        return Err(Refusal::JumpOutOfRange {
             at: at as u64,
             target,
         });
     }
     if !starts {
-        return Outcome::Refused(Answer::JumpIntoAnInstruction {
+        return Err(Refusal::JumpIntoAnInstruction {
             at: at as u64,
             target,
         });
     }
-    Outcome::Passed
+    Ok(())
 }
 
-// Every jump of the instruction at an offset, which has so many targets, in their order: the first that is refused.
+// Every jump of an instruction, in their order: the first that is refused. There are so many, counted once for this
+// and for those that push them; `target` asks for the switch.
 pub fn check_jumps(
-    code: &[u8],
-    at: usize,
-    switches: &[u32],
-    cases: &[u32],
-    ranges: &[u32],
+    instruction: &Instruction<'_>,
     count: usize,
     marks: &[u64],
     entry: u32,
     end: u32,
-) -> Outcome
-    requires at_nonzero { 0 < width_at code.now at }
-    requires switch_there { SwitchThere code.now switches.now cases.now ranges.now at }
-    requires count_value { count ≡ length (targets_of code.now switches.now cases.now ranges.now at) }
-    requires holds { Holds marks.now (starts code.now) }
-    ensures { (rights : ℕ) (names chains steps : List ℕ) (declared : ℕ) (d : Depths)
-        → told result ≡ first_bad_jump
-        (judge
-        (script rights names chains steps switches.now cases.now ranges.now
-        code.now)
-        (record { entry = entry; end = end; declared = declared }) at)
+) -> Result<(), Refusal>
+    requires has_switch { HasSwitch (script_of instruction.now.script.now) instruction.now.at }
+    requires count_value { count ≡ length (targets (script_of instruction.now.script.now) instruction.now.at) }
+    requires holds { Holds marks.now (starts instruction.now.script.now.code.now) }
+    ensures { (declared : ℕ) (d : Depths) → told result ≡ first_bad_jump
+        (judge (script_of instruction.now.script.now)
+        (record { entry = entry; end = end; declared = declared }) instruction.now.at)
         (map (λ (t : ℕ). record { place = t; depths = d })
-        (targets_of code.now switches.now cases.now ranges.now at)) }
+        (targets (script_of instruction.now.script.now) instruction.now.at)) }
 {
-    let mut k = 0;
-    while k < count {
-        let target = rules::edges::jump_target(code, at, switches, cases, ranges, k);
-        let judged = go(marks, entry, end, at, target);
-        if let Outcome::Refused(_) = judged {
-            return judged;
-        }
-        k += 1;
+    for k in 0..count {
+        let target = instruction.target(k);
+        go(marks, entry, end, instruction.at, target)?;
     }
-    Outcome::Passed
+    Ok(())
 }

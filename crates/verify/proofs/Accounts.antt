@@ -5,6 +5,7 @@ use mathlib.Core.List.{List}
 use mathlib.Core.Option.{none}
 use mathlib.Core.Path.{◌≡◌, refl, sym, ap, subst, ◌∙◌}
 use Prim.Native.Nat.{ℕ, zero, suc, ◌+◌, ◌≤◌, ◌<◌}
+use Rattle.std.specs.Prelude.{Result, Ok, Err}
 use native.Mathlib.Nat.{not-suc-le-zero}
 use native.Mathlib.Omega.{arith}
 use borrow.Author.Tests.{ltb-true, ltb-false}
@@ -18,11 +19,11 @@ use Rattle.before.specs.Calls.{marks_from}
 use Rattle.before.proofs.Established.{Established, established, room, marks_count}
 use Rattle.listing.specs.Starts.{starts}
 use Rattle.marks.specs.Marks.{total}
-use Rattle.answer.specs.Answer.{no_chunk, numbered}
+use Rattle.answer.specs.Answer.{no_chunk, numbered, refused}
 use Rattle.demand.specs.Chunk.{passes, fails, judge_chunk}
 use Rattle.demand.specs.Chunk as chunk
-use Rattle.answer.specs.declared.Answer.{Answer}
-use Rattle.answer.specs.declared.Answer.TheVariants.{Accepted}
+use Rattle.answer.specs.declared.Refusal.{Refusal}
+use Rattle.answer.specs.declared.Accepted.{Accepted}
 use Rattle.answer.specs.declared.verdict.Verdict.{Verdict}
 use Rattle.rules.specs.Script.{Script}
 use Rattle.demand.specs.Span.{Span, chunk_at}
@@ -30,8 +31,8 @@ use Rattle.verify.specs.Accounts.{sum_below, Measured, Filled, Accounted}
 use Rattle.verify.specs.Call.{Memory, verdict_on, start_bits, after_chunks, after_late_tests, after_early_tests, result}
 use Rattle.verify.specs.Demand.{ComesToChunks}
 use Rattle.judging.specs.Judging.{JudgedAll, judge_all}
-use Rattle.judging.specs.declared.Judgement.{Judgement}
-use Rattle.judging.specs.declared.Judgement.TheVariants.{Passed, Refused}
+use Rattle.judging.specs.declared.Refused.{Refused}
+use Rattle.judging.specs.declared.Sums.{Sums}
 use Rattle.judging.proofs.Chain.{chunk_next, judge_none, judge_passes, judge_fails}
 use Rattle.verify.proofs.Chunks.{passes_written, passes_measures, fails_refuses, measured_once}
 
@@ -72,7 +73,7 @@ module _ (S : Script) (records work : ℕ) (spans : List Span) where
 
   pub data Ways (n : ℕ) : Type 0 where
     all_pass : ((i : ℕ) → i < n → PassesAt i) → Ways n
-    one_fails : (i : ℕ) (a : Answer) → i < n → ((j : ℕ) → j < i → PassesAt j) → judged_at i ≡ fails a → Ways n
+    one_fails : (i : ℕ) (a : Refusal) → i < n → ((j : ℕ) → j < i → PassesAt j) → judged_at i ≡ fails a → Ways n
 
   pub ways : (n : ℕ) → Ways n
   ways zero = all_pass (λ i l. absurd (not-suc-le-zero l))
@@ -133,24 +134,24 @@ module _ (S : Script) (records work : ℕ) (spans : List Span) where
                     subst (λ (k : ℕ). get_or (set s.heights n (height_at n)) k 0 ≡ height_at k) same (get_or-set_same s.heights n _ 0 (omega (arith, s.long)))
 
     -- the chunks below a number pass, and this is the answer
-    pub record JudgedTo (n : ℕ) (answer : Judgement) : Type 0 where
+    pub record JudgedTo (n : ℕ) (answer : Result Sums Refused) : Type 0 where
       pub heights : List ℕ
       pub so : judge_all S records work spans 0 0 0 before ≡ record { answer = answer; heights = heights }
       pub long : length heights ≡ length before
       pub held : (i : ℕ) → i < n → i < length before → get_or heights i 0 ≡ height_at i
       pub kept : (i : ℕ) → n ≤ i → get_or heights i 0 ≡ get_or before i 0
 
-    to : {n : ℕ} {answer : Judgement} (s : Sofar n)
+    to : {n : ℕ} {answer : Result Sums Refused} (s : Sofar n)
         → judge_all S records work (drop n spans) n (sum_below reached_at n) (sum_below taken_at n) s.heights ≡ record { answer = answer; heights = s.heights }
         → JudgedTo n answer
     to s ends = record { heights = s.heights; so = sym s.rest ∙ ends; long = s.long; held = s.held; kept = s.kept }
 
     pub judged_passes : ((i : ℕ) → i < length spans → PassesAt i)
-        → JudgedTo (length spans) (Passed (sum_below reached_at (length spans)) (sum_below taken_at (length spans)))
+        → JudgedTo (length spans) (Ok (record { reached = sum_below reached_at (length spans); taken = sum_below taken_at (length spans) }))
     judged_passes p =
         to (sofar (length spans) (omega arith) p) (rw (drop_of_length-le spans {i = length spans} (omega arith)) (judge_none S records work _ _ _ _))
 
-    pub judged_fails : (i : ℕ) {a : Answer} → i < length spans → ((j : ℕ) → j < i → PassesAt j) → judged_at i ≡ fails a → JudgedTo i (Refused i a)
+    pub judged_fails : (i : ℕ) {a : Refusal} → i < length spans → ((j : ℕ) → j < i → PassesAt j) → judged_at i ≡ fails a → JudgedTo i (Err (record { chunk = i; refusal = a }))
     judged_fails i {a} l p e =
         let s = sofar i (omega arith) p in
         to s (rw (chunk_next spans i l) (judge_fails S records work (chunk_at spans i) (drop (suc i) spans) i (sum_below reached_at i) (sum_below taken_at i) s.heights e))
@@ -187,12 +188,12 @@ module _ (I : Input) (spans : List Span) (before : Memory) where
     judges = rw (b.early, b.late) refl
 
     -- as far as chunks pass, their heights are measured
-    keeps_heights : {n : ℕ} {answer : Judgement} (j : JudgedTo I.script records work spans before.heights n answer)
+    keeps_heights : {n : ℕ} {answer : Result Sums Refused} (j : JudgedTo I.script records work spans before.heights n answer)
         → (result I spans before).memory.heights ≡ j.heights
     unfolding after_chunks
     keeps_heights j = rw (judges, j.so) refl
 
-    measures : I.chunks ≡ length spans → {n : ℕ} {answer : Judgement}
+    measures : I.chunks ≡ length spans → {n : ℕ} {answer : Result Sums Refused}
         (j : JudgedTo I.script records work spans before.heights n answer) → n ≤ length spans
         → ((i : ℕ) → i < n → PassesIn i) → Measured I.script spans n (result I spans before).memory.heights
     measures same j few p = record {
@@ -203,7 +204,7 @@ module _ (I : Input) (spans : List Span) (before : Memory) where
           (passes_measures I known (chunk_at spans i) records work (p i l));
     }
 
-    fills : I.chunks ≡ length spans → {n : ℕ} {answer : Judgement} (j : JudgedTo I.script records work spans before.heights n answer)
+    fills : I.chunks ≡ length spans → {n : ℕ} {answer : Result Sums Refused} (j : JudgedTo I.script records work spans before.heights n answer)
         → n ≤ length spans → ((i : ℕ) → i < n → PassesIn i) → Filled I.script spans n before.heights (result I spans before).memory.heights
     fills same j few p = record {
       measured = measures same j few p;
@@ -212,24 +213,31 @@ module _ (I : Input) (spans : List Span) (before : Memory) where
     }
 
     -- where a chunk fails after others that pass, it is refused
-    pub refuses : (i : ℕ) {a : Answer} → i < length spans → ((j : ℕ) → j < i → PassesIn j) → judged_at I.script records work spans i ≡ fails a
-        → (result I spans before).verdict ≡ numbered i a
+    pub refuses : (i : ℕ) {a : Refusal} → i < length spans → ((j : ℕ) → j < i → PassesIn j) → judged_at I.script records work spans i ≡ fails a
+        → (result I spans before).verdict ≡ refused i a
     unfolding after_chunks verdict_on
     refuses i l p e = rw (judges, (judged_fails I.script records work spans before.heights i l p e).so) refl
 
     -- and the heights of those before it are measured
-    pub fills_before : I.chunks ≡ length spans → (i : ℕ) {a : Answer} → i < length spans → ((j : ℕ) → j < i → PassesIn j)
+    pub fills_before : I.chunks ≡ length spans → (i : ℕ) {a : Refusal} → i < length spans → ((j : ℕ) → j < i → PassesIn j)
         → judged_at I.script records work spans i ≡ fails a → Filled I.script spans i before.heights (result I spans before).memory.heights
     fills_before same i l p e = fills same (judged_fails I.script records work spans before.heights i l p e) (omega arith) p
 
     -- where all pass, it is accepted
     module _ (p : (i : ℕ) → i < length spans → PassesIn i) where
-      all : JudgedTo I.script records work spans before.heights (length spans)
-          (Passed (sum_below (reached_at I.script records work spans) (length spans)) (sum_below (taken_at I.script records work spans) (length spans)))
+      abbrev sums : Sums
+      sums = record {
+        reached = sum_below (reached_at I.script records work spans) (length spans);
+        taken = sum_below (taken_at I.script records work spans) (length spans);
+      }
+
+      abbrev counts : Accepted
+      counts = record { instructions = total (start_bits I spans before); reached = sums.reached; taken = sums.taken }
+
+      all : JudgedTo I.script records work spans before.heights (length spans) (Ok sums)
       all = judged_passes I.script records work spans before.heights p
 
-      accepts : (result I spans before).verdict
-          ≡ numbered no_chunk (Accepted (total (start_bits I spans before)) (sum_below (reached_at I.script records work spans) (length spans)) (sum_below (taken_at I.script records work spans) (length spans)))
+      accepts : (result I spans before).verdict ≡ numbered no_chunk (Ok counts)
       unfolding after_chunks verdict_on
       accepts = rw (judges, all.so) refl
 

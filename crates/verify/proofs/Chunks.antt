@@ -20,15 +20,15 @@ use Rattle.listing.specs.Starts.{Start, starts}
 use Rattle.listing.proofs.Starts.{listed_start, start_listed}
 use Rattle.demand.specs.Span.{Span, InCode, T, E}
 use Rattle.opening.proofs.Tests.{span_exactly, room_exactly}
-use Rattle.answer.specs.Answer.{numbered, unless}
+use Rattle.answer.specs.Answer.{refused, unless}
 use Rattle.demand.specs.Chunk.{span_test, room_test, open_test, Judged, passes, fails, judge_chunk}
 use Rattle.demand.specs.BeforeWalk.{BeforeWalk}
 use Rattle.rules.specs.Edges.{degree}
 use Rattle.machine.specs.Lists.{sum_of}
 use Rattle.demand.specs.Writing.{Writing, Measures, Real, Exceeds}
 use Rattle.rules.specs.Script.{Script}
-use Rattle.answer.specs.declared.Answer.{Answer}
-use Rattle.answer.specs.declared.Answer.TheVariants.{NoRoom, ChunkOutOfRange, Misaligned}
+use Rattle.answer.specs.declared.Refusal.{Refusal}
+use Rattle.answer.specs.declared.Refusal.TheVariants.{NoRoom, ChunkOutOfRange, Misaligned}
 use Rattle.demand.proofs.Demand.{judged_shut, judged_walks, accepted_exactly, accepted_measures, refused_really}
 use Rattle.answer.proofs.Apart.{zero≢one}
 use Rattle.machine.proofs.Lists.{sum_same, sum_ones}
@@ -38,10 +38,10 @@ use Rattle.verify.proofs.Sorts.{shut_kind, real_kind, opening_refuses, walk_refu
 -- ---- the tests before its walk
 
 module _ (S : Script) (span : Span) (records work : ℕ) where
-  abbrev spanned : Option Answer
+  abbrev spanned : Option Refusal
   spanned = span_test S.code span.entry span.end
 
-  abbrev roomy : Option Answer
+  abbrev roomy : Option Refusal
   roomy = room_test (T S span) (E S span) records work
 
   -- they pass exactly where it opens
@@ -49,7 +49,7 @@ module _ (S : Script) (span : Span) (records work : ℕ) where
   unfolding open_test unless
   opens_exactly = (to spanned refl, back)
     where
-      to : (t : Option Answer) → spanned ≡ t → unless some t roomy ≡ none → Opens S span records work
+      to : (t : Option Refusal) → spanned ≡ t → unless some t roomy ≡ none → Opens S span records work
       to (some a) q e = absurd (zero≢one (cc))
       to none q e =
           let room = (room_exactly (T S span) (E S span) records work).0 e in
@@ -66,7 +66,7 @@ module _ (S : Script) (span : Span) (records work : ℕ) where
           (record { records_fit = o.records_room; work_fits = o.work_room }))
 
   -- where one of them refuses, that test is the first to fail
-  span_shut : {a : Answer} → spanned ≡ some a → Shut S span records work a
+  span_shut : {a : Refusal} → spanned ≡ some a → Shut S span records work a
   unfolding span_test
   span_shut {a} =
       go (ltb span.end span.entry) refl (ltb (length S.code) span.end) refl
@@ -97,7 +97,7 @@ module _ (S : Script) (span : Span) (records work : ℕ) where
           (misaligned in_order in_code (λ s. zero≢one (cc (listed s, qm)))
           (λ q. zero≢one (cc (eq-eqb span.entry (length S.code) q, ql))))
 
-  room_shut : InCode S.code span.entry span.end → {a : Answer} → roomy ≡ some a → Shut S span records work a
+  room_shut : InCode S.code span.entry span.end → {a : Refusal} → roomy ≡ some a → Shut S span records work a
   unfolding room_test
   room_shut i {a} = go (ltb records (4 * (1 + T S span))) refl (ltb work (4 * (1 + E S span))) refl
     where
@@ -113,16 +113,16 @@ module _ (S : Script) (span : Span) (records work : ℕ) where
           (little_work i (ltb-false records (4 * (1 + T S span)) qx) (ltb-true work (4 * (1 + E S span)) qy))
       go false qx false qy e = absurd (zero≢one (cc))
 
-  pub shut_really : {a : Answer} → open_test S span records work ≡ some a → Shut S span records work a
+  pub shut_really : {a : Refusal} → open_test S span records work ≡ some a → Shut S span records work a
   unfolding open_test unless
   shut_really {a} = go spanned refl
     where
-      go : (t : Option Answer) → spanned ≡ t → unless some t roomy ≡ some a → Shut S span records work a
+      go : (t : Option Refusal) → spanned ≡ t → unless some t roomy ≡ some a → Shut S span records work a
       go (some b) q e = span_shut (q ∙ e)
       go none q e = room_shut ((span_exactly S.code span.entry span.end).0 q) e
 
   -- and it does not open
-  pub shut_not_open : {a : Answer} → Shut S span records work a → ¬ Opens S span records work
+  pub shut_not_open : {a : Refusal} → Shut S span records work a → ¬ Opens S span records work
   shut_not_open (out_of_range (inl h)) o = omega (arith, o.in_code.in_order)
   shut_not_open (out_of_range (inr h)) o = omega (arith, o.in_code.in_code)
   shut_not_open (misaligned in_order in_code no_start not_last) o =
@@ -140,12 +140,12 @@ module _ (S : Script) (span : Span) (records work : ℕ) where
   -- it opens, or one of its tests fails it
   data Opening : Type 0 where
     opened : Opens S span records work → Opening
-    shut : {a : Answer} → judge_chunk S span records work ≡ fails a → Shut S span records work a → Opening
+    shut : {a : Refusal} → judge_chunk S span records work ≡ fails a → Shut S span records work a → Opening
 
   opening : Opening
   opening = go (open_test S span records work) refl
     where
-      go : (t : Option Answer) → open_test S span records work ≡ t → Opening
+      go : (t : Option Refusal) → open_test S span records work ≡ t → Opening
       go none q = opened (opens_exactly.0 q)
       go (some a) q = shut (judged_shut S span records work q) (shut_really q)
 
@@ -177,7 +177,7 @@ module _ (I : Input) (is : Established I) (span : Span) (records work : ℕ) whe
     written_passes w = let a = (accepted_exactly I.script span walks).1 w in
         record { height = a.height; reached = a.reached; taken = a.taken; so = judged_walks I.script span walks ∙ a.so }
 
-    pub fails_really : {a : Answer} → here ≡ fails a → Real I.script span a ⊎ Exceeds I.script span a
+    pub fails_really : {a : Refusal} → here ≡ fails a → Real I.script span a ⊎ Exceeds I.script span a
     fails_really e = refused_really I.script span walks (sym (judged_walks I.script span walks) ∙ e)
 
   module _ {h r t : ℕ} (e : here ≡ passes h r t) where
@@ -193,7 +193,7 @@ module _ (I : Input) (is : Established I) (span : Span) (records work : ℕ) whe
     passes_measures = accepted_measures I.script span walked_through (sym (judged_walks I.script span walked_through) ∙ e)
 
   -- what fails it: one of its own tests, or its walk
-  module _ {a : Answer} (e : here ≡ fails a) where
+  module _ {a : Refusal} (e : here ≡ fails a) where
     pub fails_for : Shut I.script span records work a ⊎ FailsWalk I.script span records work a
     fails_for = go (opening I.script span records work)
       where
@@ -203,11 +203,11 @@ module _ (I : Input) (is : Established I) (span : Span) (records work : ℕ) whe
         go (shut {a = b} q s) = let same : b ≡ a = cc in inl (subst (Shut I.script span records work) same s)
 
     -- so it is refused, under its number
-    pub fails_refuses : (number : ℕ) → (0 < (numbered number a).kind) × ((numbered number a).chunk ≡ number)
+    pub fails_refuses : (number : ℕ) → (0 < (refused number a).kind) × ((refused number a).chunk ≡ number)
     fails_refuses number = go fails_for
       where
         go : Shut I.script span records work a ⊎ FailsWalk I.script span records work a
-            → (0 < (numbered number a).kind) × ((numbered number a).chunk ≡ number)
+            → (0 < (refused number a).kind) × ((refused number a).chunk ≡ number)
         go (inl s) = let k = shut_kind I.script span s number in (opening_refuses k.0, k.1)
         go (inr f) = let k = real_kind I.script span f.real number in (walk_refuses k.0, k.1)
 

@@ -12,11 +12,11 @@ use native.Mathlib.Omega.{arith}
 use lib.ListN.{length}
 use Rattle.before.specs.Before.{Test, before_stores, after_stores}
 use Rattle.before.specs.Input.{Input}
-use Rattle.answer.specs.Answer.{no_chunk, numbered}
+use Rattle.answer.specs.Answer.{no_chunk, refused}
 use Rattle.pools.proofs.LimitLaws.{chunks_kept}
 use Rattle.demand.specs.Chunk.{passes, fails}
 use Rattle.demand.specs.Chunk as chunk
-use Rattle.answer.specs.declared.Answer.{Answer}
+use Rattle.answer.specs.declared.Refusal.{Refusal}
 use Rattle.answer.specs.declared.verdict.Verdict.{Verdict}
 use Rattle.demand.specs.Span.{Span, chunk_at}
 use Rattle.demand.specs.Writing.{Writing}
@@ -94,7 +94,7 @@ module _ (I : Input) (spans : List Span) (before : Memory) where
   abbrev Refused : ℕ → Type 0
   Refused i = RefusedFor I spans before i (FailsAt I spans before i) verdict
 
-  refuses_first : ComesToChunks I before → (i : ℕ) {a : Answer} → i < length spans
+  refuses_first : ComesToChunks I before → (i : ℕ) {a : Refusal} → i < length spans
       → ((j : ℕ) → j < i → PassesIn I spans before j) → judged_at I.script records work spans i ≡ fails a → Refused i
   refuses_first b i {a} l p e = record {
     begins = b;
@@ -106,8 +106,8 @@ module _ (I : Input) (spans : List Span) (before : Memory) where
   }
 
   -- another reason for the same refusal, where the verdict's numbers give it
-  because : {i : ℕ} {Reason Other : Answer → Type 0} {r : Verdict} → RefusedFor I spans before i Reason r
-      → ((a : Answer) → r ≡ numbered i a → Reason a → Other a) → RefusedFor I spans before i Other r
+  because : {i : ℕ} {Reason Other : Refusal → Type 0} {r : Verdict} → RefusedFor I spans before i Reason r
+      → ((a : Refusal) → r ≡ refused i a → Reason a → Other a) → RefusedFor I spans before i Other r
   because x gives = record {
     begins = x.begins;
     there = x.there;
@@ -175,7 +175,7 @@ module _ (I : Input) (spans : List Span) (before : Memory) where
         → RefusedFor I spans before r.chunk (ShutAt I spans before r.chunk) r
     refused_unopened named kind = because (refused_chunk named) (λ a e. go e)
       where
-        go : {a : Answer} → r ≡ numbered r.chunk a → FailsAt I spans before r.chunk a
+        go : {a : Refusal} → r ≡ refused r.chunk a → FailsAt I spans before r.chunk a
             → ShutAt I spans before r.chunk a
         go e (inl s) = s
         go e (inr f) =
@@ -187,7 +187,7 @@ module _ (I : Input) (spans : List Span) (before : Memory) where
         → RefusedFor I spans before r.chunk (FailsWalkAt I spans before r.chunk) r
     refused_walk named kind = because (refused_chunk named) (λ a e. go e)
       where
-        go : {a : Answer} → r ≡ numbered r.chunk a → FailsAt I spans before r.chunk a
+        go : {a : Refusal} → r ≡ refused r.chunk a → FailsAt I spans before r.chunk a
             → FailsWalkAt I spans before r.chunk a
         go e (inl s) =
             let of-opening = (shut_kind I.script (chunk_at spans r.chunk) s r.chunk).0 in
@@ -219,10 +219,10 @@ module _ (I : Input) (spans : List Span) (before : Memory) where
           → ¬ Writing I.script (chunk_at spans i)
       refused_unwritten x w = go (ways I.script records work spans (length spans))
         where
-          told : numbered i x.answer ≡ verdict
+          told : refused i x.answer ≡ verdict
           told = sym x.numbers ∙ c.verdict
 
-          kind : WalkKind (numbered i x.answer).kind × ((numbered i x.answer).chunk ≡ i)
+          kind : WalkKind (refused i x.answer).kind × ((refused i x.answer).chunk ≡ i)
           kind = real_kind I.script (chunk_at spans i) x.reason.real i
 
           go : Ways I.script records work spans (length spans) → ⊥

@@ -2,6 +2,7 @@
 pub mod Sorts
 pub mod Chunks
 pub mod Accounts
+pub mod Bare
 pub mod Whole
 pub mod Small
 pub mod Between

@@ -26,58 +26,58 @@ use Rattle.rules.specs.Rights.{lacking}
 use Rattle.rules.specs.Script.{Script}
 use Rattle.demand.specs.Span.{Span}
 use Rattle.answer.proofs.Apart.{zero≢one}
-use Rattle.answer.specs.Answer.{no_chunk, numbered}
-use Rattle.answer.specs.declared.Answer.{Answer}
-use Rattle.answer.specs.declared.Answer.TheVariants.{TooLarge, BadTable, NoRoom, MissingCaps, Undecodable, BadIndex}
+use Rattle.answer.specs.Answer.{no_chunk, refused}
+use Rattle.answer.specs.declared.Refusal.{Refusal}
+use Rattle.answer.specs.declared.Refusal.TheVariants.{TooLarge, BadTable, NoRoom, MissingCaps, Undecodable, BadIndex}
 use Rattle.verify.specs.Demand.{Shut, out_of_range, misaligned, few_records, little_work, OpeningKind, WalkKind}
 
 -- P holds of whatever a test answers
-pub record Gives (P : Answer → Type 0) (t : Test) : Type 0 where
-  pub gives : (a : Answer) → t ≡ some a → P a
+pub record Gives (P : Refusal → Type 0) (t : Test) : Type 0 where
+  pub gives : (a : Refusal) → t ≡ some a → P a
 
-none_gives : (P : Answer → Type 0) → Gives P none
+none_gives : (P : Refusal → Type 0) → Gives P none
 none_gives P = record { gives = λ a e. absurd (zero≢one (cc)) }
 
-some_gives : (P : Answer → Type 0) {a : Answer} → P a → Gives P (some a)
+some_gives : (P : Refusal → Type 0) {a : Refusal} → P a → Gives P (some a)
 some_gives P {a} p = record { gives = λ b e. let same : a ≡ b = cc in subst P same p }
 
-either : (P : Answer → Type 0) (x : Bool) {a : Answer} → P a → Gives P (cond x none (some a))
+either : (P : Refusal → Type 0) (x : Bool) {a : Refusal} → P a → Gives P (cond x none (some a))
 either P true p = none_gives P
 either P false p = some_gives P p
 
-other : (P : Answer → Type 0) (x : Bool) {a : Answer} → P a → {t : Test} → Gives P t → Gives P (cond x (some a) t)
+other : (P : Refusal → Type 0) (x : Bool) {a : Refusal} → P a → {t : Test} → Gives P t → Gives P (cond x (some a) t)
 other P true p g = some_gives P p
 other P false p g = g
 
-unless : (P : Answer → Type 0) (x : Bool) (t : Test) → Gives P t → Gives P (cond x none t)
+unless : (P : Refusal → Type 0) (x : Bool) (t : Test) → Gives P t → Gives P (cond x none t)
 unless P true t g = none_gives P
 unless P false t g = g
 
 -- of the first that refuses
-pair : (P : Answer → Type 0) (t : Test) (ts : List Test) → Gives P t → Gives P (first ts) → Gives P (first (t ∷ ts))
+pair : (P : Refusal → Type 0) (t : Test) (ts : List Test) → Gives P t → Gives P (first ts) → Gives P (first (t ∷ ts))
 unfolding first
 pair P none ts g h = h
 pair P (some a) ts g h = g
 
-nothing : (P : Answer → Type 0) → Gives P (first [])
+nothing : (P : Refusal → Type 0) → Gives P (first [])
 unfolding first
 nothing P = none_gives P
 
 -- ---- before any store
 
-abbrev Early : Answer → Type 0
-Early a = (0 < (numbered no_chunk a).kind) × ((numbered no_chunk a).kind ≤ 3) × ((numbered no_chunk a).chunk ≡ no_chunk)
+abbrev Early : Refusal → Type 0
+Early a = (0 < (refused no_chunk a).kind) × ((refused no_chunk a).kind ≤ 3) × ((refused no_chunk a).chunk ≡ no_chunk)
 
 limit_kind : (a : ℕ) → Early (TooLarge a)
-unfolding numbered
+unfolding refused
 limit_kind a = (omega arith, omega arith, refl)
 
 table_kind : (a b : ℕ) → Early (BadTable a b)
-unfolding numbered
+unfolding refused
 table_kind a b = (omega arith, omega arith, refl)
 
 room_kind : (a b : ℕ) → Early (NoRoom a b)
-unfolding numbered
+unfolding refused
 room_kind a b = (omega arith, omega arith, refl)
 
 module _ (sizes : Sizes) (chains steps switches cases ranges : List ℕ) (marks heights : ℕ) where
@@ -95,25 +95,25 @@ module _ (sizes : Sizes) (chains steps switches cases ranges : List ℕ) (marks 
   unfolding lent_test
   room needed lent buffer = other Early (ltb lent needed) (room_kind needed buffer) (none_gives Early)
 
-  pub early_kind : {a : Answer} → early_tests sizes chains steps switches cases ranges marks heights ≡ some a → Early a
+  pub early_kind : {a : Refusal} → early_tests sizes chains steps switches cases ranges marks heights ≡ some a → Early a
   unfolding early_tests
   early_kind e = (pair Early _ _ limits (pair Early _ _ tables (pair Early _ _ (room _ _ _) (pair Early _ _ (room _ _ _) (nothing Early))))).gives _ e
 
 -- ---- after it
 
-abbrev Late : Answer → Type 0
-Late a = (3 < (numbered no_chunk a).kind) × ((numbered no_chunk a).chunk ≡ no_chunk)
+abbrev Late : Refusal → Type 0
+Late a = (3 < (refused no_chunk a).kind) × ((refused no_chunk a).chunk ≡ no_chunk)
 
 caps_kind : (a b : ℕ) → Late (MissingCaps a b)
-unfolding numbered
+unfolding refused
 caps_kind a b = (omega arith, refl)
 
 index_kind : (a b c : ℕ) → Late (BadIndex a b c)
-unfolding numbered
+unfolding refused
 index_kind a b c = (omega arith, refl)
 
 decode_kind : (a : ℕ) → Late (Undecodable a)
-unfolding numbered
+unfolding refused
 decode_kind a = (omega arith, refl)
 
 rights_kind : (needed rights : ℕ) → Gives Late (rights_test needed rights)
@@ -145,7 +145,7 @@ module _ (sizes : counted.Sizes) (records : reference.Tables) (code : List ℕ) 
       (λ at e. subst (Gives Late) (sym (code_stop sizes records code at e)) (width_kind at))
       (λ at h rest. subst (Gives Late) (sym (code_on sizes records code at h)) (pair Late _ _ (indices_kind at) (pair Late _ _ rest (nothing Late))))
 
-  pub late_kind : (rights functions : ℕ) (constants : List ℕ) {a : Answer} → late_tests rights functions constants sizes records code ≡ some a → Late a
+  pub late_kind : (rights functions : ℕ) (constants : List ℕ) {a : Refusal} → late_tests rights functions constants sizes records code ≡ some a → Late a
   unfolding late_tests
   late_kind rights functions constants e =
       (pair Late _ _ (constants_kind rights constants) (pair Late _ _ (code_kind 0) (pair Late _ _ (function_kind functions rights) (nothing Late)))).gives _ e
@@ -153,22 +153,22 @@ module _ (sizes : counted.Sizes) (records : reference.Tables) (code : List ℕ) 
 -- ---- of a chunk
 
 -- whatever its number, a verdict with this answer is of such a kind, and names the chunk
-abbrev pub Tells : (Kind : ℕ → Type 0) → Answer → Type 0
-Tells Kind a = (number : ℕ) → Kind (numbered number a).kind × ((numbered number a).chunk ≡ number)
+abbrev pub Tells : (Kind : ℕ → Type 0) → Refusal → Type 0
+Tells Kind a = (number : ℕ) → Kind (refused number a).kind × ((refused number a).chunk ≡ number)
 
 module _ (S : Script) (span : Span) where
-  pub shut_kind : {records work : ℕ} {a : Answer} → Shut S span records work a → Tells OpeningKind a
-  unfolding numbered
+  pub shut_kind : {records work : ℕ} {a : Refusal} → Shut S span records work a → Tells OpeningKind a
+  unfolding refused
   shut_kind (out_of_range h) = λ n. (inr (omega arith, omega arith), refl)
   shut_kind (misaligned o i s e) = λ n. (inr (omega arith, omega arith), refl)
   shut_kind (few_records i h) = λ n. (inl refl, refl)
   shut_kind (little_work i r h) = λ n. (inl refl, refl)
 
-  pub real_kind : {a : Answer} → Real S span a ⊎ Exceeds S span a → Tells WalkKind a
-  unfolding numbered
+  pub real_kind : {a : Refusal} → Real S span a ⊎ Exceeds S span a → Tells WalkKind a
+  unfolding refused
   real_kind (inl r) = real r
     where
-      real : {a : Answer} → Real S span a → Tells WalkKind a
+      real : {a : Refusal} → Real S span a → Tells WalkKind a
       real (lacks_rights m l) = λ n. (inl refl, refl)
       real (leaves m able t out) = λ n. (inr (omega arith, omega arith), refl)
       real (splits m able t from to none-starts) = λ n. (inr (omega arith, omega arith), refl)

@@ -3,14 +3,15 @@
 -- zeroes all of records and work; all of marks holds the starts' bits after acceptance, zeros after refusal; heights
 -- hold a measured height for each chunk before the one refused (all, if accepted), the others untouched."
 use Rattle.std.specs.Prelude.{List, ◌≡◌, ℕ, length, replicate}
+use Rattle.std.specs.Prelude as std
 use Rattle.std.proofs.Math.Option.{none, some}
-use Rattle.answer.specs.Answer.{no_chunk, numbered}
-use Rattle.answer.specs.declared.Answer.{Answer}
+use Rattle.answer.specs.Answer.{no_chunk, numbered, refused}
 use Rattle.answer.specs.declared.verdict.Verdict.{Verdict}
 use Rattle.before.specs.Before.{Test, before_stores, after_stores, marks_of}
 use Rattle.before.specs.Input.{Input}
 use Rattle.demand.specs.Span.{Span}
-use Rattle.judging.specs.declared.Judgement.{Judgement}
+use Rattle.judging.specs.declared.Refused.{Refused}
+use Rattle.judging.specs.declared.Sums.{Sums}
 use Rattle.judging.specs.Judging.{JudgedAll, judge_all}
 use Rattle.marks.specs.Marks.{total}
 use Rattle.verify.specs.Accounts.{Accounted}
@@ -28,13 +29,14 @@ pub record Result : Type 0 where
   pub memory : Memory
 
 -- the verdict on judged chunks, with the ones in the marks counted, and what marks hold with it
-unfoldable pub verdict_on : Judgement → (marks : List ℕ) → Verdict
-verdict_on (Judgement.Passed reached taken) marks = numbered no_chunk (Answer.Accepted (total marks) reached taken)
-verdict_on (Judgement.Refused chunk a) marks = numbered chunk a
+unfoldable pub verdict_on : std.Result Sums Refused → (marks : List ℕ) → Verdict
+verdict_on (std.Ok sums) marks =
+    numbered no_chunk (std.Ok (record { instructions = total marks; reached = sums.reached; taken = sums.taken }))
+verdict_on (std.Err failed) marks = refused failed.chunk failed.refusal
 
-unfoldable pub marks_on : Judgement → (marks : List ℕ) → List ℕ
-marks_on (Judgement.Passed reached taken) marks = marks
-marks_on (Judgement.Refused chunk a) marks = replicate (length marks) 0
+unfoldable pub marks_on : std.Result Sums Refused → (marks : List ℕ) → List ℕ
+marks_on (std.Ok sums) marks = marks
+marks_on (std.Err failed) marks = replicate (length marks) 0
 
 module _ (I : Input) (spans : List Span) (before : Memory) where
   -- the memory once there was a store: these marks and heights, and nothing in records and work
@@ -60,7 +62,7 @@ module _ (I : Input) (spans : List Span) (before : Memory) where
   -- once the tests after the first store came to this: a refusal, or the chunks are judged
   unfoldable pub after_late_tests : Test → Result
   after_late_tests (some a) = record {
-    verdict = numbered no_chunk a;
+    verdict = refused no_chunk a;
     memory = after_first_store (replicate (length before.marks) 0) before.heights;
   }
   after_late_tests none =
@@ -69,7 +71,7 @@ module _ (I : Input) (spans : List Span) (before : Memory) where
 
   -- once the tests before any store came to this: a refusal, or the tests after the first store are made
   unfoldable pub after_early_tests : Test → Result
-  after_early_tests (some a) = record { verdict = numbered no_chunk a; memory = before }
+  after_early_tests (some a) = record { verdict = refused no_chunk a; memory = before }
   after_early_tests none = after_late_tests (after_stores I)
 
   abbrev pub result : Result

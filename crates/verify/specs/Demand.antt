@@ -5,8 +5,8 @@
 -- to come to is the customer's third demand: Writing.
 use Rattle.std.specs.Prelude.{List, ◌⊎◌, ◌≡◌, ℕ, ◌+◌, ◌*◌, ◌≤◌, ◌<◌, length}
 use Rattle.std.proofs.Math.Option.{none}
-use Rattle.answer.specs.Answer.{numbered}
-use Rattle.answer.specs.declared.Answer.{Answer}
+use Rattle.answer.specs.Answer.{refused}
+use Rattle.answer.specs.declared.Refusal.{Refusal}
 use Rattle.answer.specs.declared.verdict.Verdict.{Verdict}
 use Rattle.before.specs.Before.{before_stores, after_stores}
 use Rattle.before.specs.Input.{Input}
@@ -32,22 +32,22 @@ pub record Opens (S : Script) (span : Span) (records work : ℕ) : Type 0 where
 module _ (S : Script) (span : Span) (records work : ℕ) where
   -- it does not open: one of these tests fails, with this answer, and those before it pass (`shut_really` and
   -- `shut_not_open` there)
-  pub data Shut : Answer → Type 0 where
+  pub data Shut : Refusal → Type 0 where
     -- 7: it ends before its entry, or past the code
     out_of_range : (span.end < span.entry) ⊎ (length S.code < span.end)
-        → Shut (Answer.ChunkOutOfRange span.entry span.end)
+        → Shut (Refusal.ChunkOutOfRange span.entry span.end)
     -- 8: its entry is neither a start nor the code's length
     misaligned : span.entry ≤ span.end → span.end ≤ length S.code → ¬ Start width_of S.code span.entry
-        → ¬ (span.entry ≡ length S.code) → Shut (Answer.Misaligned span.entry)
+        → ¬ (span.entry ≡ length S.code) → Shut (Refusal.Misaligned span.entry)
     -- 3: there is no room for records; or there is, and none for work
     few_records : InCode S.code span.entry span.end → records < 4 * (1 + T S span)
-        → Shut (Answer.NoRoom (4 * (1 + T S span)) 3)
+        → Shut (Refusal.NoRoom (4 * (1 + T S span)) 3)
     little_work : InCode S.code span.entry span.end → 4 * (1 + T S span) ≤ records → work < 4 * (1 + E S span)
-        → Shut (Answer.NoRoom (4 * (1 + E S span)) 4)
+        → Shut (Refusal.NoRoom (4 * (1 + E S span)) 4)
 
   -- it opens, and its walk or 14 refuses it: an instruction on its paths really fails that test, or the largest depth
   -- on them is above the declared height
-  pub record FailsWalk (answer : Answer) : Type 0 where
+  pub record FailsWalk (answer : Refusal) : Type 0 where
     pub opens : Opens S span records work
     pub real : Real S span answer ⊎ Exceeds S span answer
 
@@ -70,13 +70,13 @@ module _ (I : Input) (spans : List Span) (before : Memory) where
   abbrev pub OpensAt : ℕ → Type 0
   OpensAt i = Opens I.script (chunk_at spans i) (length before.records) (length before.work)
 
-  abbrev pub ShutAt : ℕ → Answer → Type 0
+  abbrev pub ShutAt : ℕ → Refusal → Type 0
   ShutAt i = Shut I.script (chunk_at spans i) (length before.records) (length before.work)
 
-  abbrev pub FailsWalkAt : ℕ → Answer → Type 0
+  abbrev pub FailsWalkAt : ℕ → Refusal → Type 0
   FailsWalkAt i = FailsWalk I.script (chunk_at spans i) (length before.records) (length before.work)
 
-  abbrev pub FailsAt : ℕ → Answer → Type 0
+  abbrev pub FailsAt : ℕ → Refusal → Type 0
   FailsAt i answer = ShutAt i answer ⊎ FailsWalkAt i answer
 
   -- it is sound: it opens, and depths can be written beside its starts
@@ -91,12 +91,12 @@ module _ (I : Input) (spans : List Span) (before : Memory) where
 
   -- a verdict that refuses the chunk of a number: the call comes to it, those before it are sound, and it fails for
   -- this reason, which the verdict tells with its very numbers
-  pub record RefusedFor (i : ℕ) (Reason : Answer → Type 0) (r : Verdict) : Type 0 where
+  pub record RefusedFor (i : ℕ) (Reason : Refusal → Type 0) (r : Verdict) : Type 0 where
     pub begins : ComesToChunks I before
     pub there : i < length spans
     pub sound_before : (j : ℕ) → j < i → Good j
-    pub answer : Answer
-    pub numbers : r ≡ numbered i answer
+    pub answer : Refusal
+    pub numbers : r ≡ refused i answer
     pub reason : Reason answer
 
   -- "heights hold a measured height for each chunk before the one refused (all, if accepted), the others untouched"

@@ -2,16 +2,18 @@
 -- upward. The first refusal met ends the whole call"; "What comes back": "Kinds 1, 2, and 3 for marks or heights come
 -- before any store. Every later return zeroes all of records and work", and "reached and taken, summed over the
 -- chunks".
-use Rattle.std.specs.Prelude.{Bool, false, cond, List, [], ◌∷◌, ◌≡◌, ℕ, ◌+◌, ◌*◌, ◌^◌, ◌≤◌, ◌<◌, leb, ltb, length, replicate}
+use Rattle.std.specs.Prelude.{cond, List, [], ◌∷◌, ◌≡◌, ℕ, Result, Ok, Err, ◌+◌, ◌*◌, ◌^◌, ◌≤◌, ◌<◌, leb, length}
+use Rattle.std.specs.Prelude.{replicate}
 use Rattle.std.proofs.Math.Option.{none, some}
-use Rattle.answer.specs.Answer.{no_chunk, numbered}
-use Rattle.answer.specs.declared.Answer.{Answer}
+use Rattle.answer.specs.Answer.{no_chunk, numbered, refused}
+use Rattle.answer.specs.declared.Accepted.{Accepted}
 use Rattle.answer.specs.declared.verdict.Verdict.{Verdict}
 use Rattle.before.specs.Before.{Test}
 use Rattle.before.specs.Calls.{before_chunks, marks_after}
 use Rattle.before.specs.Input.{Input}
 use Rattle.demand.specs.Span.{Span}
-use Rattle.judging.specs.declared.Judgement.{Judgement}
+use Rattle.judging.specs.declared.Refused.{Refused}
+use Rattle.judging.specs.declared.Sums.{Sums}
 use Rattle.judging.specs.Judges.{most_reached, most_taken}
 use Rattle.judging.specs.Judging.{JudgedAll, judge_all}
 use Rattle.marks.specs.Marks.{total}
@@ -19,19 +21,22 @@ use Rattle.opening.specs.Ready.{Ready, Marked}
 use Rattle.pools.specs.Sizes.{max_chunks}
 use Rattle.rules.specs.Script.{Script}
 use Rattle.verify.specs.Call.{marks_on}
-use Rattle.verify.specs.declared.stages.State.{State}
+
+-- a call between two stages: it goes on, with what is counted so far, or it has ended with its verdict
+abbrev pub State : Type 0
+State = Result Accepted Verdict
 
 -- ---- before the chunks
 
 -- the state after these tests, with so many instructions marked
 unfoldable pub opened : Test → (instructions : ℕ) → State
-opened none instructions = State.Going instructions 0 0
-opened (some a) instructions = State.Ended (numbered no_chunk a)
+opened none instructions = Ok (record { instructions = instructions; reached = 0; taken = 0 })
+opened (some a) instructions = Err (refused no_chunk a)
 
 -- what records or work hold then
 unfoldable pub words_on : Test → List ℕ → List ℕ
 words_on none words = replicate (length words) 0
-words_on (some a) words = cond (leb (numbered no_chunk a).kind 3) words (replicate (length words) 0)
+words_on (some a) words = cond (leb (refused no_chunk a).kind 3) words (replicate (length words) 0)
 
 -- records and work are zeroed
 pub record BothClear (records work records' work' : List ℕ) : Type 0 where
@@ -48,36 +53,40 @@ module _ (I : Input) (heights : ℕ) (marks records work : List ℕ) where
 
 -- ---- the chunks
 
--- the state after more chunks are judged, and what marks hold then
-unfoldable pub advanced : State → Judgement → State
-advanced (State.Going instructions reached taken) (Judgement.Passed more further) =
-    State.Going instructions (reached + more) (taken + further)
-advanced (State.Going instructions reached taken) (Judgement.Refused chunk a) = State.Ended (numbered chunk a)
-advanced (State.Ended verdict) judgement = State.Ended verdict
+-- the state after more chunks are judged; a call that has ended stays as it ended
+unfoldable pub advanced : State → Result Sums Refused → State
+advanced (Ok counted) (Ok more) = Ok (record {
+  instructions = counted.instructions;
+  reached = counted.reached + more.reached;
+  taken = counted.taken + more.taken;
+})
+advanced (Ok counted) (Err failed) = Err (refused failed.chunk failed.refusal)
+advanced (Err verdict) judgement = Err verdict
 
-unfoldable pub marks_then : State → Judgement → (marks : List ℕ) → List ℕ
-marks_then (State.Going instructions reached taken) judgement marks = marks_on judgement marks
-marks_then (State.Ended verdict) judgement marks = marks
+-- and what marks hold then
+unfoldable pub marks_then : State → Result Sums Refused → (marks : List ℕ) → List ℕ
+marks_then (Ok counted) judgement marks = marks_on judgement marks
+marks_then (Err verdict) judgement marks = marks
 
-module _ (state : State) (judgement : Judgement) (marks : List ℕ) where
+module _ (state : State) (judgement : Result Sums Refused) (marks : List ℕ) where
   pub record Advances (r : State) (marks' : List ℕ) : Type 0 where
     pub next : r ≡ advanced state judgement
     pub bits : marks' ≡ marks_then state judgement marks
 
 -- the sums fit a `u64`
-unfoldable pub Fits : State → Judgement → Type 0
-Fits (State.Going instructions reached taken) (Judgement.Passed more further) =
-    (reached + more < 2 ^ 64) × (taken + further < 2 ^ 64)
-Fits (State.Going instructions reached taken) (Judgement.Refused chunk a) = Unit {0}
-Fits (State.Ended verdict) judgement = Unit {0}
+unfoldable pub Fits : State → Result Sums Refused → Type 0
+Fits (Ok counted) (Ok more) = (counted.reached + more.reached < 2 ^ 64) × (counted.taken + more.taken < 2 ^ 64)
+Fits (Ok counted) (Err failed) = Unit {0}
+Fits (Err verdict) judgement = Unit {0}
 
 -- the counts are those of so many chunks at most
 unfoldable pub Few : State → (chunks : ℕ) → Type 0
-Few (State.Going instructions reached taken) chunks = (reached ≤ chunks * most_reached) × (taken ≤ chunks * most_taken)
-Few (State.Ended verdict) chunks = Unit {0}
+Few (Ok counted) chunks = (counted.reached ≤ chunks * most_reached) × (counted.taken ≤ chunks * most_taken)
+Few (Err verdict) chunks = Unit {0}
 
 -- what a call for one chunk builds on
-pub record ReadyForChunk (S : Script) (number : ℕ) (state : State) (marks heights records work : List ℕ) : Type 0 where
+pub record ReadyForChunk (S : Script) (number : ℕ) (state : State) (marks heights records work : List ℕ)
+    : Type 0 where
   pub ready : Ready S
   pub marked : Marked marks S.code
   pub records_zero : records ≡ replicate (length records) 0
@@ -99,11 +108,6 @@ module _ (S : Script) (records work : ℕ) (span : Span) (number : ℕ) (state :
 
 -- ---- the end
 
--- whether there is another chunk to judge
-unfoldable pub goes_on : State → (number chunks : ℕ) → Bool
-goes_on (State.Going instructions reached taken) number chunks = ltb number chunks
-goes_on (State.Ended verdict) number chunks = false
-
 unfoldable pub finished : State → Verdict
-finished (State.Going instructions reached taken) = numbered no_chunk (Answer.Accepted instructions reached taken)
-finished (State.Ended verdict) = verdict
+finished (Ok counted) = numbered no_chunk (Ok counted)
+finished (Err verdict) = verdict

@@ -3,17 +3,65 @@
 // Left to the caller: what a host does with a script that passes.
 #![tactic(auto)]
 
+ghost use Rattle.std.specs.Prelude.{◌≡◌, length};
+ghost use Rattle.before.specs.Input.{input_of};
 ghost use Rattle.before.specs.Parameters.{input};
 ghost use Rattle.verify.specs.Call.{Calls};
+ghost use Rattle.verify.specs.Stages.{finished};
 ghost use Rattle.judging.specs.Spans.{spans_of};
-ghost use Rattle.std.specs.Prelude.{length};
 
 pub mod stages;
 
 use answer::verdict::Verdict;
+use before::Input;
+use opening::Checked;
+use pools::Pools;
+use rules::Script;
 use stages::State;
 
+// All stages but the last, of an input with as many chunks as there are spans. The three lists are those of `verify`,
+// and the four buffers stay four: each stage is lent two or three of them.
+fn judged(
+    input: &Input<'_>,
+    entries: &[u32],
+    ends: &[u32],
+    declared: &[u16],
+    marks: &mut [u64],
+    heights: &mut [u16],
+    records: &mut [u32],
+    work: &mut [u32],
+) -> State
+    requires { input.now.chunks ≡ length (spans_of entries.now ends.now declared.now) }
+    ensures { Calls
+        (input_of input.now)
+        (spans_of entries.now ends.now declared.now)
+        (record {
+          marks = marks.old;
+          heights = heights.old;
+          records = records.old;
+          work = work.old;
+        })
+        (finished result)
+        (record {
+          marks = marks.new;
+          heights = heights.new;
+          records = records.new;
+          work = work.new;
+        }) }
+{
+    let counted = stages::begin(input, heights.len(), marks, records, work)?;
+    let checked = Checked {
+        script: &input.script,
+        marks,
+    };
+    let judgement = judging::judge_spans(
+        &checked, entries, ends, declared, 0, heights, records, work,
+    );
+    stages::advance(Ok(counted), judgement, marks)
+}
+
 // The whole call over flat spans, of any input. There are as many chunks as the shortest of the three lists has spans.
+// Its parameters are the flat ones that README offers: none of them asks anything of a caller.
 pub fn verify(
     rights: u32,
     functions: u32,
@@ -53,11 +101,7 @@ pub fn verify(
           work = work.new;
         }) }
 {
-    let chunks = judging::least(entries.len(), ends.len(), declared.len());
-    let room = heights.len();
-    let state = stages::begin(
-        rights,
-        functions,
+    let pools = Pools {
         constants,
         names,
         tokens,
@@ -67,19 +111,19 @@ pub fn verify(
         switches,
         cases,
         ranges,
+    };
+    let script = Script {
         code,
+        pools,
+        rights,
+    };
+    let chunks = judging::least(entries.len(), ends.len(), declared.len());
+    let input = Input {
+        script,
+        functions,
         chunks,
-        room,
-        marks,
-        records,
-        work,
-    );
-    if let State::Ended(verdict) = state {
-        return verdict;
-    }
-    let judgement = judging::judge_spans(
-        rights, names, chains, steps, switches, cases, ranges, code, entries, ends, declared, 0,
-        marks, heights, records, work,
-    );
-    stages::finish(stages::advance(state, judgement, marks))
+    };
+    stages::finish(judged(
+        &input, entries, ends, declared, marks, heights, records, work,
+    ))
 }

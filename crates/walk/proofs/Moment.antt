@@ -36,10 +36,10 @@ module _ (S : Script) (room : Room) (records work : List ℕ) (B : BeforeWalk S 
   span = room_span room
 
   -- what the walk over the log knows of this moment
-  over_log : (l : Book Log) × (walk (machine S span) log h.taken [] ≡ unfinished (item_of h ∷ items work h.waiting) l) × Tells (machine S span) (seen_store S span) (Fit S span (length records)) (book_of h records) l
+  over_log : (l : Book Log) × (walk (machine S span) log h.counts.taken [] ≡ unfinished (item_of h ∷ items work h.waiting) l) × Tells (machine S span) (seen_store S span) (Fit S span (length records)) (book_of h records) l
   over_log =
       same_unfinished (machine S span) (seen_store S span) (Fit S span (length records)) (faithful S span (length records) B.records_room)
-      (laid_fit S span (length records) B.records_room) (laid_empty S span (length records) B.records_room) h.taken G.ran
+      (laid_fit S span (length records) B.records_room) (laid_empty S span (length records) B.records_room) h.counts.taken G.ran
 
   pub fit : Fit S span (length records) records
   fit = over_log.2.fit
@@ -47,23 +47,23 @@ module _ (S : Script) (room : Room) (records work : List ℕ) (B : BeforeWalk S 
   -- an item before the end is at an instruction of the chunk
   pub in_chunk : h.place < span.end → spans.InChunk S span h.place
   in_chunk below =
-      inside S span (item_inside (machine S span) (sound_unfinished (machine S span) (degree S) (keeps_laws S span B) h.taken over_log.1).holds.once below)
+      inside S span (item_inside (machine S span) (sound_unfinished (machine S span) (degree S) (keeps_laws S span B) h.counts.taken over_log.1).holds.once below)
 
   bounds : Bounded (E S span) (length (chunk_starts S span)) (item_of h ∷ items work h.waiting) (book_of h records)
   unfolding E
   bounds =
       store_bounded (machine S span) (seen_store S span) (Fit S span (length records)) (faithful S span (length records) B.records_room)
-      (laid_fit S span (length records) B.records_room) (laid_empty S span (length records) B.records_room) h.taken (keeps_laws S span B) G.ran
+      (laid_fit S span (length records) B.records_room) (laid_empty S span (length records) B.records_room) h.counts.taken (keeps_laws S span B) G.ran
 
   -- what waits has its room, and so has every number
   pub record Small : Type 0 where
-    pub waits : h.taken + 1 + h.waiting ≤ 1 + E S span
+    pub waits : h.counts.taken + 1 + h.waiting ≤ 1 + E S span
     pub work_room : 4 * (1 + E S span) ≤ length work
-    pub few : h.reached ≤ length S.code
-    pub operands : h.depths.operands ≤ h.reached
-    pub iterators : h.depths.iterators ≤ h.reached
-    pub handlers : h.depths.handlers ≤ h.reached
-    pub low : h.height ≤ h.reached
+    pub few : h.counts.reached ≤ length S.code
+    pub operands : h.depths.operands ≤ h.counts.reached
+    pub iterators : h.depths.iterators ≤ h.counts.reached
+    pub handlers : h.depths.handlers ≤ h.counts.reached
+    pub low : h.counts.height ≤ h.counts.reached
 
   pub small : Small
   small =
@@ -79,9 +79,9 @@ module _ (S : Script) (room : Room) (records work : List ℕ) (B : BeforeWalk S 
       }
 
   -- before a new item enters there is room for all its edges
-  pub roomy : New (machine S span) (seen_store S span) (item_of h) (book_of h records) → h.taken + 1 + h.waiting + degree S h.place ≤ 1 + E S span
+  pub roomy : New (machine S span) (seen_store S span) (item_of h) (book_of h records) → h.counts.taken + 1 + h.waiting + degree S h.place ≤ 1 + E S span
   unfolding E
   roomy new =
       let r = store_roomy (machine S span) (seen_store S span) (Fit S span (length records)) (faithful S span (length records) B.records_room)
-      (laid_fit S span (length records) B.records_room) (laid_empty S span (length records) B.records_room) h.taken (keeps_laws S span B) G.ran new in
+      (laid_fit S span (length records) B.records_room) (laid_empty S span (length records) B.records_room) h.counts.taken (keeps_laws S span B) G.ran new in
       omega (arith, r.room, length_items work h.waiting)

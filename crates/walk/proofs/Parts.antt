@@ -1,30 +1,17 @@
--- The parts of a turn: a key tested, jumps pushed one by one, the item pushed last taken back.
-use mathlib.Core.Bool.{Bool, true, false, ◌&&◌}
+-- The parts of a turn: jumps pushed one by one, the item pushed last taken back.
 use mathlib.Core.List.{List}
 use mathlib.Core.Path.{◌≡◌, refl, sym, ap, ◌∙◌}
 use Prim.Native.Nat.{ℕ, suc, ◌+◌, ◌-◌, ◌*◌, ◌≤◌, ◌<◌}
 use native.Mathlib.Omega.{arith}
-use borrow.Author.Tests.{ltb-true}
-use lib.Dec.{ltb, eqb}
 use lib.ListN.{length, get_or, drop, drop_of_length-le}
 use lib.Seq.{drop-cons}
 use Rattle.order.specs.Order.{below}
 use Rattle.answer.specs.declared.Depths.{Depths}
 use Rattle.answer.specs.Depths.{zeros}
-use Rattle.answer.proofs.Apart.{zero≢one}
 use Rattle.words.specs.Stack.{item_at, items, put, put_all, Clear}
 use Rattle.words.proofs.Items.{length_put, items_on, items_kept, clear_top}
 use Rattle.walk.specs.declared.Hand.{Hand}
 use Rattle.walk.specs.Leaving.{jumps_to, Pushed, TakenBack}
-
--- ---- a key
-
-first_holds : (a b : Bool) → a && b ≡ true → a ≡ true
-first_holds true b e = refl
-first_holds false b e = absurd (zero≢one (cc))
-
-pub key_slot : (slot keys word place : ℕ) → ltb slot keys && eqb word place ≡ true → slot < keys
-key_slot slot keys word place e = ltb-true slot keys (first_holds _ _ e)
 
 -- ---- jumps
 
@@ -66,12 +53,10 @@ pub taken_back : (keys : List ℕ) (h : Hand) {work work' : List ℕ} (place : �
     → Clear work h.waiting → record { place = place; depths = d } ≡ item_at work (h.waiting - 1)
     → work' ≡ put work (h.waiting - 1) (record { place = 0; depths = zeros }) → slot ≡ below keys place
     → TakenBack keys h work
-    (record { place = place; depths = d; slot = slot; waiting = h.waiting - 1; reached = h.reached; taken = h.taken; height = h.height }) work'
+    (record { place = place; depths = d; slot = slot; waiting = h.waiting - 1; counts = h.counts }) work'
 taken_back keys h {work} {work'} place d slot some room clear top w found = record {
   waits = ap (λ (n : ℕ). items work n) less ∙ items_on work (h.waiting - 1) ∙ rw (w, ← top, items_kept work (h.waiting - 1) (record { place = 0; depths = zeros }) (h.waiting - 1) (omega arith)) refl;
-  reached = refl;
-  taken = refl;
-  height = refl;
+  counts = refl;
   slot = found;
   clear = rw w (clear_top work (h.waiting - 1) (omega arith) (record { clear = λ i l. clear.clear i (omega arith) }));
 }

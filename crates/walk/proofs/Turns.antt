@@ -10,27 +10,28 @@ use borrow.Author.Tests.{lt-ltb, le-ltb, eq-eqb, eqb-true}
 use lib.Dec.{ltb, eqb}
 use lib.ListN.{length, get_or, take}
 use lib.Seq.{get_or-take}
+use Rattle.std.proofs.lemmas.List.{length-take-le}
 use Rattle.code.specs.Layout.{among}
-use Rattle.code.specs.Width.{width_of, width_at}
+use Rattle.code.specs.Width.{width_of}
 use Rattle.listing.specs.Starts.{Start}
-use Rattle.listing.proofs.Starts.{start_wide}
 use Rattle.order.specs.Order.{Rising, below}
 use Rattle.order.proofs.Laws.{below_mono}
 use Rattle.pools.proofs.Most.{code_small}
-use Rattle.answer.specs.declared.Answer.{Answer}
+use Rattle.answer.specs.declared.Refusal.{Refusal}
 use Rattle.rules.specs.Edges.{degree, falls, targets, after, jumped, next}
 use Rattle.machine.specs.Walk.{denies, gives, fall_to, entered, goes_on, stops, push, first_bad_jump, seen}
 use Rattle.demand.specs.Chunk.{rule, judge, machine}
 use Rattle.rules.specs.Script.{Script, tag_of}
+use Rattle.rules.specs.There.{Stands}
 use Rattle.demand.specs.Span.{Span}
 use Rattle.machine.proofs.Laws.{Passes}
 use Rattle.answer.proofs.Apart.{zero≢one}
 use Rattle.machine.proofs.Turn.{New, is_denied, jumps_badly, enters, refuses, turn_is, seen_named, seen_other}
 use Rattle.words.specs.Seen.{seen_at, note_at}
 use Rattle.words.specs.Stack.{items}
-use Rattle.words.proofs.Notes.{length_note}
 use Rattle.walk.specs.declared.Hand.{Hand}
 use Rattle.opening.specs.declared.Room.{Room}
+use Rattle.opening.specs.Ready.{Ready}
 use Rattle.opening.specs.Records.{named, keys}
 use Rattle.walk.specs.Records.{slot_of, seen_store}
 use Rattle.walk.specs.Turn.{room_span, turn_of, AtItem, Unseen}
@@ -38,16 +39,10 @@ use Rattle.walk.specs.Leaving.{jumps_to, noted, RoomToLeave}
 use Rattle.walk.specs.Hand.{item_of, book_of}
 use Rattle.walk.proofs.Moment.{fit, in_chunk, small, roomy}
 use Rattle.walk.proofs.Store.{take_note}
+use Rattle.opening.proofs.Passed.{stands}
 use Rattle.opening.proofs.Targets.{few_keys, keys_rise, named_key, key_named, key_there, there_key}
 
 -- ---- the depths noted
-
-pub noted_length : (room : Room) (h : Hand) (records : List ℕ) → length (noted room h records) ≡ length records
-noted_length room h records = go (ltb h.slot room.keys && eqb (get_or records h.slot 0) h.place)
-  where
-    go : (b : Bool) → length (cond b (note_at records (room.base + h.slot * 3) h.depths) records) ≡ length records
-    go true = length_note records (room.base + h.slot * 3) h.depths
-    go false = refl
 
 pub noted_front : (room : Room) (h : Hand) (records : List ℕ) → room.keys ≤ room.base → take room.keys (noted room h records) ≡ take room.keys records
 noted_front room h records l = go (ltb h.slot room.keys && eqb (get_or records h.slot 0) h.place)
@@ -58,7 +53,7 @@ noted_front room h records l = go (ltb h.slot room.keys && eqb (get_or records h
 
 -- ---- an item in hand
 
-module _ (S : Script) (room : Room) (h : Hand) (marks records work : List ℕ) (A : AtItem S room h marks records work) where
+module _ (S : Script) (room : Room) (h : Hand) (records work : List ℕ) (A : AtItem S room h records work) where
   abbrev span : Span
   span = room_span room
 
@@ -76,6 +71,9 @@ module _ (S : Script) (room : Room) (h : Hand) (marks records work : List ℕ) (
 
   pub keys_room : room.keys ≤ length records
   keys_room = omega (arith, keys_behind, A.base, A.before.records_room)
+
+  pub keys_counted : room.keys ≡ length (take room.keys records)
+  keys_counted = sym (length-take-le room.keys records keys_room)
 
   pub notes_room : room.base + room.keys * 3 ≤ length records
   notes_room = omega (arith, keys_behind, A.base, A.before.records_room)
@@ -127,19 +125,19 @@ module _ (S : Script) (room : Room) (h : Hand) (marks records work : List ℕ) (
     pub start : Start width_of S.code h.place
     start = (in_chunk S room records work A.before h A.going below_end).start
 
-    pub wide : 0 < width_at S.code h.place
-    wide = start_wide width_of S.code start
+    pub standing : Ready S → Stands S h.place
+    standing R = stands R start
 
   pub record Fitting : Type 0 where
     pub operands : h.depths.operands + 1 < 2 ^ 32
     pub iterators : h.depths.iterators + 1 < 2 ^ 32
     pub handlers : h.depths.handlers + 1 < 2 ^ 32
-    pub reached : h.reached + 1 < 2 ^ 64
+    pub reached : h.counts.reached + 1 < 2 ^ 64
 
-  pub fitting : Fitting
-  fitting =
+  pub fitting : Ready S → Fitting
+  fitting R =
       let s = small S room records work A.before h A.going in
-      let few = A.ready.listable.small in
+      let few = R.listable.small in
       record {
         operands = omega (arith, s.operands, s.few, code_small);
         iterators = omega (arith, s.iterators, s.few, code_small);
@@ -150,16 +148,16 @@ module _ (S : Script) (room : Room) (h : Hand) (marks records work : List ℕ) (
   pub waits_room : h.waiting * 4 ≤ length work
   waits_room = let s = small S room records work A.before h A.going in omega (arith, s.waits, s.work_room)
 
-  pub taken_fits : length work < 2 ^ 64 → h.taken + 1 < 2 ^ 64
+  pub taken_fits : length work < 2 ^ 64 → h.counts.taken + 1 < 2 ^ 64
   taken_fits f = let s = small S room records work A.before h A.going in omega (arith, s.waits, s.work_room)
 
   module _ (U : Unseen S room h records) where
     new : New (machine S span) (seen_store S span) (item_of h) (book_of h records)
     new = record { below = U.below_end; unseen = U.unseen }
 
-    pub leaves : length work < 2 ^ 64 → RoomToLeave room h (next S h.place) (targets S h.place) records work
+    pub leaves : Ready S → length work < 2 ^ 64 → RoomToLeave room h (next S h.place) (targets S h.place) records work
     unfolding degree next
-    leaves f = record {
+    leaves R f = record {
       keys_room = keys_room;
       notes_room = notes_room;
       keys_behind = keys_behind;
@@ -167,14 +165,14 @@ module _ (S : Script) (room : Room) (h : Hand) (marks records work : List ℕ) (
       along = rw (front, A.going.slot) (below_mono ks h.place (next S h.place) (omega arith));
       jumps_room = omega (arith, roomy S room records work A.before h A.going new, A.before.work_room);
       clear = A.going.clear;
-      operands_fit = fitting.operands;
-      reached_fits = fitting.reached;
+      operands_fit = (fitting R).operands;
+      reached_fits = (fitting R).reached;
       taken_fits = taken_fits f;
     }
 
     -- ---- the ways out
 
-    pub denied_turn : {a : Answer} → rule S span h.place h.depths ≡ denies a → turn_of S room h records work ≡ stops a
+    pub denied_turn : {a : Refusal} → rule S span h.place h.depths ≡ denies a → turn_of S room h records work ≡ stops a
     denied_turn e = turn_is (machine S span) (seen_store S span) (item_of h) (items work h.waiting) (book_of h records) (refuses (is_denied new e))
 
     module _ (e : rule S span h.place h.depths
@@ -183,7 +181,7 @@ module _ (S : Script) (room : Room) (h : Hand) (marks records work : List ℕ) (
       passes : Passes (machine S span) (item_of h)
       passes = record { post = _; fall = _; jumps = _; ruled = e }
 
-      pub bad_turn : {a : Answer} → first_bad_jump (judge S span h.place) (jumps_to (jumped S h.place h.depths) (targets S h.place)) ≡ some a
+      pub bad_turn : {a : Refusal} → first_bad_jump (judge S span h.place) (jumps_to (jumped S h.place h.depths) (targets S h.place)) ≡ some a
           → turn_of S room h records work ≡ stops a
       unfolding passes
       bad_turn q = turn_is (machine S span) (seen_store S span) (item_of h) (items work h.waiting) (book_of h records) (refuses (jumps_badly new passes q))

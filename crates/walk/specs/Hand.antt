@@ -11,15 +11,12 @@ use Rattle.walk.specs.declared.Hand.{Hand}
 abbrev pub item_of : Hand → Item
 item_of h = record { place = h.place; depths = h.depths }
 
-abbrev pub counts_of : Hand → Counts
-counts_of h = record { reached = h.reached; taken = h.taken; height = h.height }
-
 abbrev pub book_with : Counts → (records : List ℕ) → Book (List ℕ)
 book_with counts records =
     record { store = records; reached = counts.reached; taken = counts.taken; height = counts.height }
 
 abbrev pub book_of : Hand → (records : List ℕ) → Book (List ℕ)
-book_of h records = book_with (counts_of h) records
+book_of h records = book_with h.counts records
 
 -- the first item in hand
 abbrev pub first_hand : (keys : List ℕ) → (entry : ℕ) → Hand
@@ -28,22 +25,13 @@ first_hand keys entry = record {
   depths = zeros;
   slot = below keys entry;
   waiting = 0;
-  reached = 0;
-  taken = 0;
-  height = 0;
+  counts = record { reached = 0; taken = 0; height = 0 };
 }
 
 -- control falls through to the next place
 abbrev pub fallen : (keys : List ℕ) → Hand → ℕ → Depths → Hand
-fallen keys h next d = record {
-  place = next;
-  depths = d;
-  slot = below keys next;
-  waiting = h.waiting;
-  reached = h.reached;
-  taken = h.taken;
-  height = h.height;
-}
+fallen keys h next d =
+    record { place = next; depths = d; slot = below keys next; waiting = h.waiting; counts = h.counts }
 
 -- an item that is dropped, and one that enters an instruction which leaves so many operands, where so many items wait
 -- then
@@ -53,9 +41,7 @@ dropped_hand h = record {
   depths = h.depths;
   slot = h.slot;
   waiting = h.waiting;
-  reached = h.reached;
-  taken = h.taken + 1;
-  height = h.height;
+  counts = record { reached = h.counts.reached; taken = h.counts.taken + 1; height = h.counts.height };
 }
 
 abbrev pub entered_hand : Hand → (post waiting : ℕ) → Hand
@@ -64,7 +50,9 @@ entered_hand h post waiting = record {
   depths = h.depths;
   slot = h.slot;
   waiting = waiting;
-  reached = h.reached + 1;
-  taken = h.taken + 1;
-  height = max h.height (max h.depths.operands post);
+  counts = record {
+    reached = h.counts.reached + 1;
+    taken = h.counts.taken + 1;
+    height = max h.counts.height (max h.depths.operands post);
+  };
 }

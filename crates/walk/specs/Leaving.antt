@@ -11,7 +11,7 @@ use Rattle.words.specs.Stack.{items, put_all, Clear}
 use Rattle.walk.specs.declared.Counts.{Counts}
 use Rattle.walk.specs.declared.Hand.{Hand}
 use Rattle.walk.specs.declared.Turn.{Turn}
-use Rattle.walk.specs.Hand.{item_of, counts_of, fallen, entered_hand}
+use Rattle.walk.specs.Hand.{item_of, fallen, entered_hand}
 
 -- a jump to each target, with the same depths
 abbrev pub jumps_to : Depths → List ℕ → List Item
@@ -25,22 +25,19 @@ pub record Pushed (targets : List ℕ) (d : Depths) (waiting : ℕ) (work : List
 -- the item pushed last was taken, and its words cleared
 pub record TakenBack (keys : List ℕ) (h : Hand) (work : List ℕ) (next : Hand) (work' : List ℕ) : Type 0 where
   pub waits : items work h.waiting ≡ item_of next ∷ items work' next.waiting
-  pub reached : next.reached ≡ h.reached
-  pub taken : next.taken ≡ h.taken
-  pub height : next.height ≡ h.height
+  pub counts : next.counts ≡ h.counts
   pub slot : next.slot ≡ below keys next.place
   pub clear : Clear work' next.waiting
 
 -- there was none
 pub record NoneBack (h : Hand) (work : List ℕ) (last : Counts) (work' : List ℕ) : Type 0 where
   pub waits : h.waiting ≡ 0
-  pub counts : last ≡ counts_of h
+  pub counts : last ≡ h.counts
   pub words : work' ≡ work
 
 abbrev pub BackOrDone : (keys : List ℕ) → Hand → (work : List ℕ) → Turn → (work' : List ℕ) → Type 0
 BackOrDone keys h work (Turn.Next next) work' = TakenBack keys h work next work'
 BackOrDone keys h work (Turn.Done last) work' = NoneBack h work last work'
-BackOrDone keys h work (Turn.Refused a) work' = ⊥
 
 -- the words with the depths in hand noted, where the place is a key
 abbrev pub noted : Room → Hand → List ℕ → List ℕ
@@ -59,8 +56,8 @@ pub record RoomToLeave (room : Room) (h : Hand) (next : ℕ) (targets records wo
   pub jumps_room : (h.waiting + length targets) * 4 ≤ length work
   pub clear : Clear work h.waiting
   pub operands_fit : h.depths.operands + 1 < 2 ^ 32
-  pub reached_fits : h.reached + 1 < 2 ^ 64
-  pub taken_fits : h.taken + 1 < 2 ^ 64
+  pub reached_fits : h.counts.reached + 1 < 2 ^ 64
+  pub taken_fits : h.counts.taken + 1 < 2 ^ 64
 
 -- what it comes to: the depths noted, the jumps pushed, and the next place in hand or an item taken back
 module _ (room : Room) (h : Hand) (edges : Edges) (targets records work : List ℕ) where

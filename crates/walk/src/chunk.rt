@@ -4,8 +4,8 @@ ghost use Rattle.order.specs.Order.{Rising};
 ghost use Rattle.walk.specs.Ends.{Abandoned, Closed};
 ghost use Rattle.walk.specs.Hand.{first_hand};
 
-use crate::Hand;
-use answer::{Answer, Depths, Outcome};
+use crate::{Counts, Hand, NO_DEPTHS};
+use answer::Refusal;
 use opening::Room;
 
 // The item that the walk starts with: the entry, with zeros.
@@ -14,20 +14,13 @@ pub fn first_item(room: Room, records: &[u32]) -> Hand
     requires rising { Rising (take room.keys records.now) }
     ensures { result ≡ first_hand (take room.keys records.now) room.entry }
 {
-    let depths = Depths {
-        operands: 0,
-        iterators: 0,
-        handlers: 0,
-    };
-    let slot = order::find(records, room.keys, room.entry);
+    let slot = order::find(&records[..room.keys], room.entry);
     Hand {
         place: room.entry,
-        depths,
+        depths: NO_DEPTHS,
         slot,
         waiting: 0,
-        reached: 0,
-        taken: 0,
-        height: 0,
+        counts: Counts::default(),
     }
 }
 
@@ -44,6 +37,7 @@ pub fn abandon(base: usize, waiting: usize, records: &mut [u32], work: &mut [u32
 
 // After the last item: clears what the walk used of records, and stores the height where it is not above the declared
 // one, 14.
+#[tactic(auto, unfolding(answer::specs::Answer::told, demand::specs::Chunk::height_test))]
 pub fn close_chunk(
     base: usize,
     height: u32,
@@ -51,7 +45,7 @@ pub fn close_chunk(
     chunk: usize,
     heights: &mut [u16],
     records: &mut [u32],
-) -> Outcome
+) -> Result<(), Refusal>
     requires base_in_bounds { base * 4 ≤ length records.old }
     requires chunk_in_bounds { chunk < length heights.old }
     ensures { Closed (base * 4) height declared chunk heights.old records.old
@@ -59,11 +53,11 @@ pub fn close_chunk(
 {
     order::clear_first(records, base * 4);
     if (declared as u32) < height {
-        return Outcome::Refused(Answer::StackExceedsDeclared {
+        return Err(Refusal::StackExceedsDeclared {
             needed: height,
             declared,
         });
     }
     heights[chunk] = height as u16;
-    Outcome::Passed
+    Ok(())
 }

@@ -2,16 +2,15 @@
 -- tests": "place that is the entry or a named target and was seen before". The operands are kept as one more, so that 0
 -- says: not seen.
 use Rattle.std.specs.Prelude.{cond, List, [], ◌∷◌, ℕ, ◌+◌, ◌-◌, eqb, get_or}
+use Rattle.std.specs.Prelude as code
 use Rattle.std.proofs.Math.Option.{Option, none, some}
 use Rattle.std.proofs.lemmas.List.Edits.{sets}
 use Rattle.answer.specs.declared.Depths.{Depths}
-use Rattle.words.specs.declared.seen.Seen.{Seen}
-use Rattle.words.specs.declared.seen.Seen.TheVariants.{Never, With}
 
 -- the cases of the code's answer
-unfoldable pub seen_told : Seen → Option Depths
-seen_told Never = none
-seen_told (With d) = some d
+unfoldable pub seen_told : code.Option Depths → Option Depths
+seen_told code.None = none
+seen_told (code.Some d) = some d
 
 -- three words from an index on: never seen, or seen with these depths
 unfoldable pub seen_at : List ℕ → ℕ → Option Depths

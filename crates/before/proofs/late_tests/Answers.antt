@@ -1,43 +1,23 @@
 -- `before::late_tests` meets its contract: a test that passes leaves the answer to the next, and a refusal leaves no
 -- mark.
-use mathlib.Core.Path.{sym, ap, ◌∙◌}
-use Rattle.answer.specs.Answer.{told}
+use Rattle.std.proofs.Common.{rules}
 use Rattle.before.specs.Before.{late_tests}
-use Rattle.before.proofs.Held.{refused_by, of_the_lent, as_held}
-use Rattle.before.proofs.Tests.{goes_on, stops, last}
+use Rattle.before.proofs.Held.{refuses, passes, pass_refuses, pass_settled}
 use Rattle.before.proofs.late_tests.Goals as goal
 
-pub returns-in-Refused : goal.returns-in-Refused
+pub returns-in_err-settle : goal.returns-in_err-settle
 unfolding late_tests
-returns-in-Refused c =
-    refused_by _ _ c.refuse.ensures c.in-Refused.is (stops _ c.check_constants-granted.ensures c.in-Refused.is)
+returns-in_err-settle c = refuses _ _ c.check_constants.ensures c.in_err-settle.ensures (search rules)
 
-pub returns-in-Refused-passed : goal.returns-in-Refused-passed
+pub returns-in_err-first_pass : goal.returns-in_err-first_pass
 unfolding late_tests
-returns-in-Refused-passed c =
-    record {
-      answer =
-          stops _ c.first_pass-passed.ensures.answer c.in-Refused-passed.is
-          ∙ goes_on _ c.check_constants-granted.ensures c.in_default.is;
-      marks = c.first_pass-passed.ensures.marks;
-    }
-
-pub returns-in-Refused-function : goal.returns-in-Refused-function
-unfolding late_tests
-returns-in-Refused-function c =
-    refused_by _ _ (of_the_lent _ _ _ c.first_pass-passed.ensures.marks c.refuse-in-Refused-function.ensures)
-    c.in-Refused-function.is
-    (stops _ c.check_function-function.ensures c.in-Refused-function.is
-    ∙ goes_on _ c.first_pass-passed.ensures.answer c.in_default-passed.is
-    ∙ goes_on _ c.check_constants-granted.ensures c.in_default.is)
+returns-in_err-first_pass c =
+    passes _ _ c.check_constants.ensures c.in_ok-settle.ensures (
+    pass_refuses _ _ _ (rw (c.from.ensures, c.sizes.ensures) at c.in_err-first_pass.ensures) (search rules))
 
 pub returns : goal.returns
 unfolding late_tests
 returns c =
-    record {
-      answer =
-          ap told (sym c.in_default-function.is) ∙ c.check_function-function.ensures ∙ sym (last _)
-          ∙ goes_on _ c.first_pass-passed.ensures.answer c.in_default-passed.is
-          ∙ goes_on _ c.check_constants-granted.ensures c.in_default.is;
-      marks = as_held _ _ c.in_default-passed.is c.first_pass-passed.ensures.marks;
-    }
+    passes _ _ c.check_constants.ensures c.in_ok-settle.ensures (
+    pass_settled _ _ (rw (c.from.ensures, c.sizes.ensures) at c.in_ok-first_pass.ensures) c.check_function.ensures
+    c.settle-2.ensures)

@@ -1,60 +1,21 @@
 -- `before::pass_instruction` meets its contract: a way out for each answer of the two checks.
-use mathlib.Core.Path.{◌≡◌, refl}
-use Prim.Native.Nat.{ℕ}
-use mathlib.Core.List.{List}
-use native.Mathlib.Omega.{arith}
-use Rattle.code.specs.Answers.{found, found_at, width_told}
-use Rattle.code.specs.Width.{width_of}
-use Rattle.code.proofs.Widths.{Wide, wide}
-use Rattle.indices.specs.Checks.{checked_told}
-use Rattle.before.specs.Pass.{marks_turned}
-use Rattle.before.proofs.Pass.{turned, there, passed, bad_index, code_ends, no_width}
+use Rattle.std.proofs.Common.{rules}
+use Rattle.answer.specs.Answer.{told}
+use Rattle.before.proofs.Pass.{passed, bad_index, code_ends, no_width}
 use Rattle.before.proofs.pass_instruction.Goals as goal
 
--- where there is a width
-module _ (code : List ℕ) (at size : ℕ) (e : found size ≡ found_at code at) where
-  is_wide : Wide width_of code at size
-  is_wide = wide width_of _ _ _ e
+pub returns-in_err-check_indices-in-Ok : goal.returns-in_err-check_indices-in-Ok
+unfolding told
+returns-in_err-check_indices-in-Ok c =
+    bad_index _ _ _ _ c.in-Ok.ensures c.in_err-check_indices-in-Ok.ensures (search rules)
 
-pub check_indices-checked-requires : goal.check_indices-checked-requires
-unfolding width_told
-check_indices-checked-requires c =
-    record { at_nonzero = there _ _ _ c.in-Of.ensures; sound = c.requires.sound }
+pub returns-in_ok-check_indices-in-Ok : goal.returns-in_ok-check_indices-in-Ok
+unfolding told
+returns-in_ok-check_indices-in-Ok c =
+    passed _ _ _ _ c.in-Ok.ensures c.in_ok-check_indices-in-Ok.ensures c.set_start.ensures
 
-pub returns-in-Bad : goal.returns-in-Bad
-unfolding width_told checked_told marks_turned
-returns-in-Bad c =
-    turned
-    (bad_index _ _ _ _ _ _ _ c.in-Of.ensures c.in-Bad.ensures)
-    _ _ refl
+pub returns-in-Err-NoByte : goal.returns-in-Err-NoByte
+returns-in-Err-NoByte c = code_ends _ _ _ _ c.in-Err-NoByte.ensures c.in-Err-NoByte.field-0-is
 
-pub set_start-requires : goal.set_start-requires
-unfolding width_told
-set_start-requires c =
-    omega (arith, (is_wide _ _ _ c.in-Of.ensures).byte, c.requires.code_in_bounds)
-
-pub overflow_add-result : goal.overflow_add-result
-unfolding width_told
-overflow_add-result c =
-    omega (arith, (is_wide _ _ _ c.in-Of.ensures).within)
-
-pub returns-in_default : goal.returns-in_default
-unfolding width_told checked_told marks_turned
-returns-in_default c =
-    turned
-    (passed _ _ _ _ _ c.in-Of.ensures c.in_default.ensures)
-    _ _ c.set_start.ensures
-
-pub returns-in-NoByte : goal.returns-in-NoByte
-unfolding width_told marks_turned
-returns-in-NoByte c = turned (code_ends _ _ _ _ c.in-NoByte.ensures) _ _ refl
-
-pub returns-in-UnknownTag : goal.returns-in-UnknownTag
-unfolding width_told marks_turned
-returns-in-UnknownTag c =
-    turned (no_width _ _ _ _ 2 (omega arith) c.in-UnknownTag.ensures) _ _ refl
-
-pub returns-in-CutOff : goal.returns-in-CutOff
-unfolding width_told marks_turned
-returns-in-CutOff c =
-    turned (no_width _ _ _ _ 3 (omega arith) c.in-CutOff.ensures) _ _ refl
+pub returns-in-Err-UnknownTag : goal.returns-in-Err-UnknownTag
+returns-in-Err-UnknownTag c = no_width _ _ _ _ c.in-Err-UnknownTag.ensures (search rules)

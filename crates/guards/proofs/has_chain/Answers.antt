@@ -14,13 +14,13 @@ returns-then-code-at-ne-CHAIN c = no_chain_asked _ _ _ _ c.if-code-at-ne-CHAIN.t
 pub overflow_add-at : goal.overflow_add-at
 overflow_add-at c = omega (arith, chain_there _ _ c.requires c.if-code-at-ne-CHAIN.false)
 
-pub read_u16-i-requires : goal.read_u16-i-requires
-read_u16-i-requires c = omega (arith, chain_there _ _ c.requires c.if-code-at-ne-CHAIN.false)
+pub read-i-requires : goal.read-i-requires
+read-i-requires c = omega (arith, chain_there _ _ c.requires c.if-code-at-ne-CHAIN.false)
 
 pub returns-then-chains-i : goal.returns-then-chains-i
-returns-then-chains-i c = chain_past _ _ _ _ c.if-code-at-ne-CHAIN.false _ c.read_u16-i.ensures (omega arith)
+returns-then-chains-i c = chain_past _ _ _ _ c.if-code-at-ne-CHAIN.false _ c.read-i.ensures (omega arith)
 
 pub returns : goal.returns
 returns c =
     c.lie_within.ensures
-    ∙ chain_within _ _ _ _ c.if-code-at-ne-CHAIN.false _ c.read_u16-i.ensures c.if-chains-i.false
+    ∙ chain_within _ _ _ _ c.if-code-at-ne-CHAIN.false _ c.read-i.ensures c.if-chains-i.false

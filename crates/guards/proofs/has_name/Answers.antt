@@ -15,13 +15,15 @@ pub bounds-code-at : goal.bounds-code-at
 bounds-code-at c = tag_there _ _ c.requires
 
 pub returns-then-not-looks_at_name : goal.returns-then-not-looks_at_name
-returns-then-not-looks_at_name c = no_name_asked _ _ _ (sym c.looks_at_name.ensures ∙ c.if-not-looks_at_name.true)
+returns-then-not-looks_at_name c =
+    rw c.if-not-looks_at_name.true (no_name_asked _ _ _ (sym c.looks_at_name.ensures ∙ c.if-not-looks_at_name.true))
 
 pub overflow_add-at : goal.overflow_add-at
 overflow_add-at c = omega (arith, named c)
 
-pub read_u16-i-requires : goal.read_u16-i-requires
-read_u16-i-requires c = omega (arith, named c)
+pub read-requires : goal.read-requires
+read-requires c = omega (arith, named c)
 
-pub returns : goal.returns
-returns c = name_asked _ _ _ (sym c.looks_at_name.ensures ∙ c.if-not-looks_at_name.false) _ c.read_u16-i.ensures
+pub returns-else-not-looks_at_name : goal.returns-else-not-looks_at_name
+returns-else-not-looks_at_name c =
+    name_asked _ _ _ (sym c.looks_at_name.ensures ∙ c.if-not-looks_at_name.false) _ c.read.ensures

@@ -14,20 +14,21 @@ returns-then-code-at-ne-SWITCH c = no_switch_asked _ _ _ _ _ c.if-code-at-ne-SWI
 pub overflow_add-at : goal.overflow_add-at
 overflow_add-at c = omega (arith, switch_there _ _ c.requires c.if-code-at-ne-SWITCH.false)
 
-pub read_u16-i-requires : goal.read_u16-i-requires
-read_u16-i-requires c = omega (arith, switch_there _ _ c.requires c.if-code-at-ne-SWITCH.false)
+pub read-i-requires : goal.read-i-requires
+read-i-requires c = omega (arith, switch_there _ _ c.requires c.if-code-at-ne-SWITCH.false)
 
 pub returns-then-switches-i : goal.returns-then-switches-i
 returns-then-switches-i c =
-    switch_past _ _ _ _ _ c.if-code-at-ne-SWITCH.false _ c.read_u16-i.ensures c.if-switches-i.true
+    switch_past _ _ _ _ _ c.if-code-at-ne-SWITCH.false _ c.read-i.ensures c.if-switches-i.true
 
-pub returns-then-not-lie_within : goal.returns-then-not-lie_within
-returns-then-not-lie_within c =
-    cases_past _ _ _ _ _ c.if-code-at-ne-SWITCH.false _ c.read_u16-i.ensures c.if-switches-i.false
-    (sym c.lie_within.ensures ∙ c.if-not-lie_within.true)
+pub returns-then-lie_within : goal.returns-then-lie_within
+returns-then-lie_within c =
+    c.lie_within-then-lie_within.ensures
+    ∙ switch_within _ _ _ _ _ c.if-code-at-ne-SWITCH.false _ c.read-i.ensures c.if-switches-i.false
+    (sym c.lie_within.ensures ∙ c.if-lie_within.true)
 
-pub returns : goal.returns
-returns c =
-    c.lie_within-2.ensures
-    ∙ switch_within _ _ _ _ _ c.if-code-at-ne-SWITCH.false _ c.read_u16-i.ensures c.if-switches-i.false
-    (sym c.lie_within.ensures ∙ c.if-not-lie_within.false)
+pub returns-else-lie_within : goal.returns-else-lie_within
+returns-else-lie_within c =
+    c.if-lie_within.false
+    ∙ cases_past _ _ _ _ _ c.if-code-at-ne-SWITCH.false _ c.read-i.ensures c.if-switches-i.false
+    (sym c.lie_within.ensures ∙ c.if-lie_within.false)

@@ -1,39 +1,33 @@
--- `marks::count` meets its contract. The loop's measure is how many words are left.
-use mathlib.Core.Path.{◌≡◌, ap}
-use mathlib.Core.List.{List}
-use Prim.Native.Nat.{ℕ, ◌≤◌, ◌<◌, ◌+◌}
-use native.Mathlib.Numerals.{add-one}
+-- `marks::count` meets its contract: the chain sums the ones of each word.
+use mathlib.Core.Path.{◌≡◌, ◌∙◌, refl}
+use Prim.Native.Nat.{ℕ}
+use mathlib.Core.List.{List, [], ◌∷◌}
 use native.Mathlib.Omega.{arith}
-use lib.Count.{ones, ones-le}
-use lib.ListN.{length, drop, get_or, drop_of_length-le}
-use lib.Seq.{drop-cons}
+use lib.Count.{ones}
+use Rattle.std.proofs.Common.{rules, tests}
+use Rattle.std.specs.List.{sum_by}
+use Rattle.std.proofs.lemmas.List.Sums.{sum_by-cons}
+use Rattle.std.proofs.lemmas.Iterator.{YieldsList-from_slice, YieldsList-from_map}
+use Rattle.std.proofs.lemmas.Iterator.Consumers.{sum_by_from_yields_List, fits_by_from_yields_list}
 use Rattle.marks.specs.Marks.{total}
-use Rattle.marks.proofs.count.Invariants.{Counted}
-use Rattle.std.proofs.Common.{Fits, w64}
 use Rattle.marks.proofs.count.Goals as goal
 
--- what is left, a word taken off
-total-drop : (l : List ℕ) (i : ℕ) → i < length l → total (drop i l) ≡ ones (get_or l i 0) + total (drop (i + 1) l)
+-- the sum of the words' ones is the total
+ones_sum : (words : List ℕ) → sum_by ones words ≡ total words
 unfolding total
-total-drop l i h = rw (add-one, drop-cons l i 0 h)
+ones_sum [] = refl
+ones_sum (word ∷ words) = sum_by-cons ones word words ∙ omega (arith, ones_sum words)
 
--- once every word is passed, the sum is the total
-all-counted : {marks : List ℕ} {sum counted : ℕ} → Counted marks sum counted → length marks ≤ counted → sum ≡ total marks
-unfolding total
-all-counted {marks} {sum} {counted} inv h = omega (arith, ap total (drop_of_length-le marks h))
-
--- a word has at most 64 ones
-few : (marks : List ℕ) (i : ℕ) → Fits w64 (get_or marks i 0) → ones (get_or marks i 0) ≤ 64
-few marks i f = ones-le 64 (get_or marks i 0) f.fits
-
-pub overflow_cast-sum : goal.overflow_cast-sum
-overflow_cast-sum c = omega (arith, few c.args.marks.now c.loop-counted.counted (c.type_inv.marks c.loop-counted.counted))
-
-pub overflow_add-sum : goal.overflow_add-sum
-overflow_add-sum c = omega (arith, few c.args.marks.now c.loop-counted.counted (c.type_inv.marks c.loop-counted.counted), total-drop c.args.marks.now c.loop-counted.counted (omega arith))
-
-pub loop-counted-preserved : goal.loop-counted-preserved
-loop-counted-preserved c = omega (arith, total-drop c.args.marks.now c.loop-counted.counted (omega arith))
+pub sum-requires-clause-fits : goal.sum-requires-clause-fits
+sum-requires-clause-fits c =
+    fits_by_from_yields_list ones c.args.marks.now c.map.result _
+    (YieldsList-from_map _ ones (YieldsList-from_slice c.args.marks.now cc) c.map.ensures.closure
+    (λ x r q k. search (rules, tests)))
+    (rw ones_sum c.requires)
 
 pub returns : goal.returns
-returns c = all-counted c.loop-counted.invariant (omega arith)
+returns c =
+    sum_by_from_yields_List ones c.args.marks.now c.map.result c.sum.result c.sum.ensures.ran
+    (YieldsList-from_map _ ones (YieldsList-from_slice c.args.marks.now cc) c.map.ensures.closure
+    (λ x r q k. search (rules, tests)))
+    ∙ ones_sum c.args.marks.now

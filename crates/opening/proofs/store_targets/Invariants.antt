@@ -1,11 +1,9 @@
--- `opening::store_targets` meets its contract. The loop's measure is how many targets are left.
-use Prim.Native.Nat.{◌-◌}
-use Rattle.rules.specs.Edges.{targets_of}
-use Rattle.opening.proofs.Storing.{Storing}
+-- `opening::store_targets` meets its contract. So many targets are stored.
+use mathlib.Core.Path.{◌≡◌}
+use lib.ListN.{take}
+use Rattle.rules.specs.Edges.{targets}
+use Rattle.rules.specs.FromLists.{script_of}
 use Rattle.opening.proofs.store_targets.Given as goal
 
 abbrev pub invariant-loop-k : goal.invariant-loop-k
-invariant-loop-k l = Storing (targets_of l.code l.switches l.cases l.ranges l.at) l.from l.initial.records l.records l.k
-
-abbrev pub decreases-loop-k : goal.decreases-loop-k
-decreases-loop-k l = l.count - l.k
+invariant-loop-k l = take l.k l.slots ≡ take l.k (targets (script_of l.instruction.script.now) l.instruction.at)

@@ -1,13 +1,16 @@
 -- `ruling::settle` meets its contract: the tests decide, or else the way on is left to say.
 use Rattle.ruling.proofs.Tests.{enough, held_by, pops_there, pushes_fit, stops, goes_on}
+use Rattle.std.proofs.lemmas.Result.{err_from_is_err_and}
 use Rattle.ruling.proofs.settle.Goals as goal
 
-pub returns-in-Refused : goal.returns-in-Refused
-returns-in-Refused c = λ tag f. stops _ (c.check_needs-able.ensures tag f) c.in-Refused.is
+pub returns-in_err-check_needs : goal.returns-in_err-check_needs
+returns-in_err-check_needs c =
+    let p = err_from_is_err_and c.from_residual.result c.from_residual.ensures.1 in
+    λ tag f. rw (p.1, p.2) (stops _ (c.check_needs.ensures tag f) c.in_err-check_needs.was)
 
 pub leave-requires : goal.leave-requires
 leave-requires c =
-    let there = enough _ _ _ _ _ (c.check_needs-able.ensures c.requires.tag c.requires.flows) c.in_default.is in
+    let there = enough _ _ _ _ _ (c.check_needs.ensures c.requires.tag c.requires.flows) c.in_ok-check_needs.was in
     record {
       held_by = held_by c.requires there;
       pops_le_operands = pops_there c.requires there;
@@ -16,4 +19,4 @@ leave-requires c =
 
 pub returns : goal.returns
 returns c =
-    λ tag f. rw (← c.leave.ensures tag f) (goes_on _ (c.check_needs-able.ensures tag f) c.in_default.is)
+    λ tag f. rw (← c.leave.ensures tag f) (goes_on _ (c.check_needs.ensures tag f) c.in_ok-check_needs.was)

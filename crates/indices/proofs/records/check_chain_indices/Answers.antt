@@ -1,27 +1,32 @@
 -- `indices::records::check_chain_indices` meets its contract: a part that is fine leaves the answer to the next.
-use mathlib.Core.Path.{◌∙◌}
-use Rattle.pools.specs.Pools.{chain_at}
-use Rattle.indices.specs.Indices.{chain_refs}
+use native.Mathlib.Omega.{arith}
+use Rattle.std.proofs.Common.{rules}
+use Rattle.pools.specs.Pools.{chain_at, step_at}
+use Rattle.indices.specs.Indices.{chain_refs, step_refs}
+use Rattle.indices.proofs.InTurn.{each_found}
 use Rattle.indices.proofs.Laws.{goes_on, stops}
 use Rattle.indices.proofs.records.check_chain_indices.Goals as goal
 
-pub returns-in-Bad : goal.returns-in-Bad
+pub returns-in_err-check_root : goal.returns-in_err-check_root
 unfolding chain_at chain_refs
-returns-in-Bad c = stops _ _ _ c.check_root-root.ensures c.in-Bad.is
+returns-in_err-check_root c = stops _ _ _ _ _ c.in_err-check_root.ensures c.from_residual.ensures
 
-pub check_steps-walked-requires : goal.check_steps-walked-requires
+pub check_each-requires : goal.check_each-requires
 unfolding chain_at
-check_steps-walked-requires c = c.requires.steps_within
+check_each-requires c = λ i h. omega (arith, c.requires.steps_within)
 
-pub returns-in-Bad-walked : goal.returns-in-Bad-walked
+pub returns-in_err-check_each : goal.returns-in_err-check_each
 unfolding chain_at chain_refs
-returns-in-Bad-walked c =
-    stops _ _ _ c.check_steps-walked.ensures c.in-Bad-walked.is
-    ∙ goes_on _ _ _ c.check_root-root.ensures c.in_default.is
+returns-in_err-check_each c =
+    goes_on _ _ _ _ c.in_ok-check_root.ensures
+    (stops _ _ _ _ _
+    (each_found (step_at c.args.steps.now) step_refs _ _ _ (c.in_err-check_each.ensures _ _ (λ i r h p. search rules)))
+    c.from_residual-in_err-check_each.ensures)
 
 pub returns : goal.returns
 unfolding chain_at chain_refs
 returns c =
-    c.check_tail.ensures
-    ∙ goes_on _ _ _ c.check_steps-walked.ensures c.in_default-walked.is
-    ∙ goes_on _ _ _ c.check_root-root.ensures c.in_default.is
+    goes_on _ _ _ _ c.in_ok-check_root.ensures
+    (goes_on _ _ _ _
+    (each_found (step_at c.args.steps.now) step_refs _ _ _ (c.in_ok-check_each.ensures _ _ (λ i r h p. search rules)))
+    c.check_tail.ensures)

@@ -1,42 +1,36 @@
--- `list::operands::put_operands` meets its contract: the operands of three sizes are those of the tag's fields.
+-- `list::operands::put_operands` meets its contract: each operand is put in turn.
+use mathlib.Core.Path.{refl, ap}
 use native.Mathlib.Omega.{arith}
-use Rattle.list.proofs.Putting.{put_then, put_as}
-use Rattle.list.proofs.Sized.{whole_sizes, three_shown}
+use Rattle.code.specs.Layout.{layout}
+use Rattle.list.proofs.Sized.{taken, taken_fields, taken_left, one_put, all_put}
 use Rattle.list.proofs.operands.put_operands.Goals as goal
 
-pub overflow_add-second : goal.overflow_add-second
-overflow_add-second c = omega (arith, whole_sizes c.sizes_of-sizes.ensures)
-
-pub overflow_add-third : goal.overflow_add-third
-overflow_add-third c = omega (arith, whole_sizes c.sizes_of-sizes.ensures)
-
-pub put_operand-first_put-requires : goal.put_operand-first_put-requires
-put_operand-first_put-requires c = record {
-  size_value = c.sizes_of-sizes.ensures.first;
-  size_in_bounds = omega (arith, whole_sizes c.sizes_of-sizes.ensures);
-  at_in_bounds = omega arith;
+pub loop-size-init : goal.loop-size-init
+loop-size-init c = record {
+  within = omega (arith, ap taken c.sizes_of-size-items.ensures.value, taken_fields (layout c.args.tag));
+  short = omega arith;
+  written = refl;
 }
 
-pub put_operand-second_put-requires : goal.put_operand-second_put-requires
-put_operand-second_put-requires c = record {
-  size_value = c.sizes_of-sizes.ensures.second;
-  size_in_bounds = omega (arith, whole_sizes c.sizes_of-sizes.ensures);
-  at_in_bounds = omega arith;
+pub number_of-requires : goal.number_of-requires
+number_of-requires c = record {
+  size_value = c.sizes_of-size-items.ensures.each _ _ c.loop-size-test.true;
+  size_in_bounds = omega (arith, taken_left _ _ c.loop-size-test.true, c.loop-size.invariant.within);
 }
 
-pub put_operand-requires : goal.put_operand-requires
-put_operand-requires c = record {
-  size_value = c.sizes_of-sizes.ensures.third;
-  size_in_bounds = omega (arith, whole_sizes c.sizes_of-sizes.ensures);
-  at_in_bounds = omega arith;
-}
+pub overflow_add-at : goal.overflow_add-at
+overflow_add-at c = omega (arith, taken_left _ _ c.loop-size-test.true, c.loop-size.invariant.within)
 
-pub returns : goal.returns
-returns c =
-    let first = c.put_operand-first_put.ensures.puts in
-    let second = c.put_operand-second_put.ensures.puts in
-    let third = c.put_operand.ensures.puts in
+pub loop-size-preserved : goal.loop-size-preserved
+loop-size-preserved c =
+    let i = c.loop-size.invariant in
     record {
-      puts = put_as (three_shown _ _ c.sizes_of-sizes.ensures) (put_then first (put_then second third));
-      upper_bound = omega arith;
+      within = omega (arith, taken_left _ _ c.loop-size-test.true, i.within);
+      short = omega arith;
+      written = one_put _ _ c.loop-size-test.true _ _ _ c.put_field.ensures.puts c.number_of.ensures i.written;
     }
+
+pub returns-clause-puts : goal.returns-clause-puts
+returns-clause-puts c =
+    let fields = c.sizes_of-size-items.ensures.value in
+    all_put _ _ _ (layout c.args.tag) _ _ _ fields (omega arith) c.loop-size.invariant.written

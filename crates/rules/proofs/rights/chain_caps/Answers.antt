@@ -1,15 +1,8 @@
--- `rules::rights::chain_caps` meets its contract: the words of the entry are the chain's, and its steps are in their table.
-use Prim.Native.Nat.{◌+◌, ◌*◌}
-use native.Mathlib.Omega.{arith}
+-- `rules::rights::chain_caps` meets its contract: the words of the entry are the chain's, and its steps are in their
+-- table.
 use Rattle.pools.specs.Pools.{chain_at}
 use Rattle.rules.proofs.Joined.{this_root, other_root}
 use Rattle.rules.proofs.rights.chain_caps.Goals as goal
-
-pub overflow_cast-first : goal.overflow_cast-first
-overflow_cast-first c = omega (arith, c.type_inv.chains (c.args.i * 7 + 5))
-
-pub overflow_cast-count : goal.overflow_cast-count
-overflow_cast-count c = omega (arith, c.type_inv.chains (c.args.i * 7 + 6))
 
 pub steps_caps-joined-requires : goal.steps_caps-joined-requires
 unfolding chain_at
