@@ -4,7 +4,7 @@ use Prim.Native.Nat.{ℕ}
 use mathlib.Core.List.{List}
 use denote.Triple.Both.{Both}
 use Rattle.std.specs.Borrow.{Bor}
-use Rattle.before.specs.Input.{input_of}
+use Rattle.before.specs.Parameters.{input_of}
 use Rattle.before.specs.Parameters.{input}
 
 abbrev Lent : Type 0

@@ -7,8 +7,7 @@ use Rattle.std.proofs.Math.Option.{Option, none, some}
 use Rattle.answer.specs.declared.Refusal.{Refusal}
 use Rattle.answer.specs.declared.Refusal.TheVariants.{TooLarge, BadTable, NoRoom, MissingCaps, Undecodable, BadIndex}
 use Rattle.code.specs.Width.{width_at}
-use Rattle.indices.specs.Checks.{pool_sizes}
-use Rattle.indices.specs.Indices.{Tables, tables_of, size_of, refs, first_bad_ref}
+use Rattle.indices.specs.Indices.{Tables, tables_of, size_of, refs, first_bad_ref, pool_sizes}
 use Rattle.indices.specs.declared.Sizes as counted
 use Rattle.listing.specs.Starts.{in_turn, starts}
 use Rattle.marks.specs.Marks.{marked_all}

@@ -3,19 +3,13 @@
 use Rattle.std.specs.Prelude.{ℕ, length}
 use Rattle.pools.specs.Sizes.{sizes_with}
 use Rattle.pools.specs.declared.limits.Sizes.{Sizes}
-use Rattle.rules.specs.FromLists.{script_of}
 use Rattle.rules.specs.Script.{Script}
-use Rattle.before.specs.declared.Input as lent
 
 -- a script, how many functions it has, and how many chunks
 pub record Input : Type 0 where
   pub script : Script
   pub functions : ℕ
   pub chunks : ℕ
-
--- the code's struct as the record that the definitions speak of
-abbrev pub input_of : lent.Input → Input
-input_of i = record { script = script_of i.script; functions = i.functions; chunks = i.chunks }
 
 -- the counts that have limits, "over whole entries"
 abbrev pub sizes_of : Input → Sizes

@@ -1,7 +1,9 @@
--- The input as the contracts build it from the parameters of a call. Document 01, "Flat pools and sizes": what is lent.
+-- The input as the contracts build it from the parameters of a call, or read it off the code's struct. Document 01, "Flat pools and sizes": what is lent.
 use Rattle.std.specs.Prelude.{List, ℕ}
 use Rattle.std.specs.Borrow.{Bor}
 use denote.Triple.Both.{Both}
+use Rattle.rules.specs.FromLists.{script_of}
+use Rattle.before.specs.declared.Input as lent
 use Rattle.before.specs.Input.{Input}
 
 -- a slice that is lent to a call, at its entry and at its exit
@@ -30,3 +32,7 @@ input rights functions constants names tokens op_assignments chains steps switch
   functions = functions;
   chunks = chunks;
 }
+
+-- the code's struct as the record that the definitions speak of
+abbrev pub input_of : lent.Input → Input
+input_of i = record { script = script_of i.script; functions = i.functions; chunks = i.chunks }

@@ -6,13 +6,14 @@
 
 ghost use Rattle.std.specs.Prelude.{◌≡◌, ◌<◌, ◌/◌, length};
 ghost use Rattle.code.specs.Width.{width_at};
-ghost use Rattle.indices.specs.Checks.{Sound, pool_sizes};
-ghost use Rattle.indices.specs.Indices.{tables_of};
+ghost use Rattle.indices.specs.Checks.{Sound};
+ghost use Rattle.indices.specs.Indices.{pool_sizes, tables_of};
 ghost use Rattle.pools.specs.Lent.{pools_of};
 ghost use Rattle.answer.specs.Answer.{told};
 ghost use Rattle.before.specs.Before.{limits_test, tables_test, lent_test, rights_test, constants_test, function_test};
 ghost use Rattle.before.specs.Before.{indices_test, code_test, before_stores, after_stores, marks_of};
-ghost use Rattle.before.specs.Input.{input_of, sizes_of};
+ghost use Rattle.before.specs.Input.{sizes_of};
+ghost use Rattle.before.specs.Parameters.{input_of};
 ghost use Rattle.before.specs.Calls.{Settled, Prepared, ForChunks};
 ghost use Rattle.before.specs.Pass.{Turned, turn_at, MarkedAll};
 

@@ -47,6 +47,7 @@ fn has_name(code: &[u8], at: usize, names: &[u8]) -> bool
 }
 
 // So many entries from a first one on are in their table. Two words of 32 bits are added in 64, so the sum is exact.
+// `pools` tests the opposite of a bad entry, and keeps that to itself.
 fn lie_within(first: u32, count: u32, entries: usize) -> bool
     ensures { result ≡ leb (first + count) entries }
 {

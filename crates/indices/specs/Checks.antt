@@ -11,7 +11,6 @@ use Rattle.indices.specs.declared.BadIndex.{BadIndex}
 use Rattle.indices.specs.declared.Pool.{Pool}
 use Rattle.indices.specs.declared.Pool.TheVariants.{Constant, Name, Operator, OpAssignment, Chain, Switch, Site}
 use Rattle.indices.specs.declared.Sizes.{Sizes}
-use Rattle.pools.specs.declared.limits.Sizes as counted
 
 -- "pool (constant 1, name, operator, op-assignment, chain, switch, site 7)"
 unfoldable pub pool_number : Pool → ℕ
@@ -51,17 +50,6 @@ pool_counts p = record {
   op_assignments = p.op_assignments;
   chains = chains_in p.chains;
   switches = switches_in p.switches;
-}
-
--- the same from all counts
-abbrev pub pool_sizes : counted.Sizes → Sizes
-pool_sizes all = record {
-  constants = all.constants;
-  names = all.names;
-  tokens = all.tokens;
-  op_assignments = all.op_assignments;
-  chains = all.chains;
-  switches = all.switches;
 }
 
 -- what the check of the instruction at an offset tells

@@ -9,6 +9,7 @@ use Rattle.code.specs.Layout.{constants, names, operators, op_assignments, chain
 use Rattle.code.specs.Tags.{byte, CHAIN, SWITCH}
 use Rattle.pools.specs.Pools.{Pools, Chain, Step, Switch, Case, chain_at, switch_at, steps_of, cases_of}
 use Rattle.pools.specs.Told.{Told, fine}
+use Rattle.pools.specs.declared.limits.Sizes as counted
 use Rattle.indices.specs.declared.Sizes.{Sizes}
 
 -- ---- one reference
@@ -30,6 +31,17 @@ size_of s pool =
     (cond (eqb pool op_assignments) s.op_assignments
     (cond (eqb pool chains) s.chains
     (cond (eqb pool switches) s.switches 0)))))
+
+-- the same from all counts
+abbrev pub pool_sizes : counted.Sizes → Sizes
+pool_sizes all = record {
+  constants = all.constants;
+  names = all.names;
+  tokens = all.tokens;
+  op_assignments = all.op_assignments;
+  chains = all.chains;
+  switches = all.switches;
+}
 
 -- ---- the references of an instruction
 

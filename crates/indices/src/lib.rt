@@ -7,8 +7,8 @@
 ghost use Rattle.std.specs.Prelude.{◌≡◌, [], ◌∷◌, ◌<◌, ℕ, cond, ltb, Ok, Err};
 ghost use Rattle.code.specs.Width.{width_at};
 ghost use Rattle.pools.specs.Lent.{pools_of};
-ghost use Rattle.indices.specs.Indices.{first_bad_ref, into, refs, size_of, tables_of};
-ghost use Rattle.indices.specs.Checks.{Sound, checked_by, checked_told, pool_number, pool_sizes};
+ghost use Rattle.indices.specs.Indices.{first_bad_ref, into, refs, size_of, tables_of, pool_sizes};
+ghost use Rattle.indices.specs.Checks.{Sound, checked_by, checked_told, pool_number};
 
 mod fields;
 mod records;

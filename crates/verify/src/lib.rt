@@ -4,7 +4,7 @@
 #![tactic(auto)]
 
 ghost use Rattle.std.specs.Prelude.{◌≡◌, length};
-ghost use Rattle.before.specs.Input.{input_of};
+ghost use Rattle.before.specs.Parameters.{input_of};
 ghost use Rattle.before.specs.Parameters.{input};
 ghost use Rattle.verify.specs.Call.{Calls};
 ghost use Rattle.verify.specs.Stages.{finished};

@@ -1,6 +1,6 @@
 // The call in stages: everything before the chunks, chunk after chunk, and the end.
 ghost use Rattle.std.specs.Prelude.{◌≡◌, length};
-ghost use Rattle.before.specs.Input.{input_of};
+ghost use Rattle.before.specs.Parameters.{input_of};
 ghost use Rattle.rules.specs.FromLists.{script_of};
 ghost use Rattle.verify.specs.Stages.{BothClear, Begins, Advances, Fits, ReadyForChunk, Takes, finished};
 

@@ -1,7 +1,7 @@
 -- `grain::judged` meets its contract: between two chunks a call stands as the laws of its stages say. This file is
 -- printed: gen/src/grain_verify/ has its text and the list of parameters, and gen/src/lib.rs says how to print it
 -- again.
-use Rattle.before.specs.Input.{input_of}
+use Rattle.before.specs.Parameters.{input_of}
 use Rattle.grain.specs.Chunks.{spans_from}
 use Rattle.verify.proofs.Between.{OnTheWay}
 use Rattle.grain.proofs.judged.Given as goal
