@@ -96,18 +96,21 @@ fn has_switch(code: &[u8], at: usize, switches: &[u32], cases: &[u32], ranges: &
 
 // The instruction at an offset has its width, and the name, chain or switch that it names is there whole. Each test
 // may ask for the width, and so stands inside the one before.
+#[inline(always)]
 pub fn is_there(script: &Script<'_>, at: usize) -> bool
     ensures { result ≡ there (script_of script.now) at }
 {
     let code = script.code;
-    let pools = script.pools;
+    let pools = &script.pools;
     has_width(code, at)
         && (has_name(code, at, pools.names)
             && (has_chain(code, at, pools.chains, pools.steps)
                 && has_switch(code, at, pools.switches, pools.cases, pools.ranges)))
 }
 
-// The instruction at an offset, where it is there.
+// The instruction at an offset, where it is there. Laid out where it is asked for, as the test above is, the script and
+// the instruction need no memory.
+#[inline(always)]
 pub fn instruction_at<'a>(script: &'a Script<'a>, at: usize) -> Option<Instruction<'a>>
     ensures { MatchOption result (there (script_of script.now) at ≡ false)
         (λ i. (there (script_of script.now) at ≡ true) × (i.script.now ≡ script.now) × (i.at ≡ at)

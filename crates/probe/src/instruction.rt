@@ -20,6 +20,7 @@ pub struct EffectTold {
 
 // The script of which these are lent. What an instruction is asked here looks at no constant, token, op-assignment or
 // right.
+#[inline(always)]
 fn lent<'a>(
     code: &'a [u8],
     names: &'a [u8],
