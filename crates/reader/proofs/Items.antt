@@ -1,10 +1,14 @@
 -- The instructions in turn from a place on: the one that stands there and those from the place after it, and none where
--- none stands; and their offsets are the starts.
+-- none stands; their offsets are the starts, and a chain over a reader gives them.
 use mathlib.Core.List.{List, [], ◌∷◌, map}
 use mathlib.Core.Path.{◌≡◌, sym, ap, ◌∙◌}
-use Prim.Native.Nat.{ℕ, ◌+◌, ◌<◌}
-use lib.ListN.{get_or}
-use Rattle.std.specs.Prelude.{Ok, Err}
+use Prim.Native.Nat.{ℕ, ◌+◌, ◌-◌, ◌≤◌, ◌<◌, zero-le}
+use native.Mathlib.Omega.{arith}
+use lib.ListN.{length, get_or}
+use Rattle.std.specs.Prelude.{Ok, Err, Option}
+use Rattle.std.specs.Iterator.{YieldsFirst}
+use Rattle.std.proofs.lemmas.Iterator.{YieldsList}
+use Rattle.std.proofs.lemmas.Iterator.Consumers.{YieldsList-from_shown}
 use Rattle.code.specs.Width.{width_by}
 use Rattle.listing.specs.Listing.{instruction, listed_by}
 use Rattle.listing.specs.Starts.{starts_by}
@@ -50,3 +54,26 @@ module _ (table : ℕ → ℕ) (code : List ℕ) where
 
       goes : (at : ℕ) → 0 < width_by table code at → AtStarts (at + width_by table code at) → AtStarts at
       goes at p rest = rw (items_on at p) (ap (λ (s : List ℕ). at ∷ s) rest ∙ sym (starts_on table code at p))
+
+  -- they are no more than there are bytes left
+  pub few_items : (at : ℕ) → length (items_by table code at) ≤ length code - at
+  few_items = from_end (all_within table code) Few stops goes
+    where
+      Few : ℕ → Type 0
+      Few at = length (items_by table code at) ≤ length code - at
+
+      stops : (at : ℕ) → width_by table code at ≡ 0 → Few at
+      stops at z = rw (items_stop at z) zero-le
+
+      goes : (at : ℕ) → 0 < width_by table code at → Few (at + width_by table code at) → Few at
+      goes at p rest = rw (items_on at p) (omega (arith, rest, (all_within table code).within at p))
+
+-- ---- the reader as an iterator
+
+-- an iterator that gives the first of what is left, of which more is known besides, gives what is left, in turn: with
+-- this the proof of a chain over a reader begins
+pub all_given : {S A : Type 0} (rest : S → List A) (More : S → Option A → S → Type 0) (s : S)
+    → YieldsList (λ z r t. YieldsFirst rest z r t × More z r t) (λ x. x) s (rest s)
+all_given rest More s =
+    YieldsList-from_shown (λ z r t. YieldsFirst rest z r t × More z r t) (λ x. x) rest (λ z t y. ap length y.0.0)
+    (λ z x t y. y.0) s

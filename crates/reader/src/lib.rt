@@ -58,15 +58,17 @@ impl<'a> Reader<'a> {
     }
 }
 
-// The instructions from the reader's place on, in turn, up to the ending.
+// The instructions from the reader's place on, in turn, up to the ending. The reader moves as by `take_item`: past an
+// instruction, and after an ending it stays.
 impl<'a> Iterator for Reader<'a> {
     type Item = Item;
 
-    ghost next_gives = { YieldsFirst (λ s. items_from s.code.now s.at) };
+    ghost next_gives = { λ s r t. YieldsFirst (λ z. items_from z.code.now z.at) s r t
+        × ((t.code ≡ s.code) × (t.at ≡ place_after (listed_at s.code.now s.at) s.at)) };
 
     ghost remaining = { item_count (λ s. items_from s.code.now s.at) };
 
-    #[tactic(auto, using(crate::proofs::Items::first_item, crate::proofs::Items::no_item))]
+    #[tactic(auto, using(crate::proofs::Items::first_item, crate::proofs::Items::no_item), unfolding(crate::specs::Reading::place_after))]
     fn next(&mut self) -> Option<Item> {
         let item = self.next_item().ok()?;
         self.at = item.next;
